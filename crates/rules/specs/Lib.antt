@@ -1,0 +1,12 @@
+pub mod Words
+pub mod Pins
+pub mod Rule
+pub mod Delay
+pub mod State
+pub mod Beat
+pub mod Faults
+pub mod Step
+pub mod Cells
+pub mod Meaning
+pub mod Cases
+pub mod Edge

@@ -1,0 +1,26 @@
+// The pins, the commands that they bring, and the parts of a device's state; specs/ has the whole meaning of a device.
+mod decoder;
+mod edges;
+mod fault;
+mod pins;
+mod state;
+
+pub use decoder::decode;
+pub use edges::edges_stand;
+pub use fault::Fault;
+pub use fault::Rule;
+pub use pins::Access;
+pub use pins::BankName;
+pub use pins::Command;
+pub use pins::Level;
+pub use pins::Pins;
+pub use state::Bank;
+pub use state::Beat;
+pub use state::Burst;
+pub use state::Length;
+pub use state::Mode;
+pub use state::Past;
+pub use state::Registers;
+pub use state::Row;
+pub use state::Steps;
+pub use state::Work;
