@@ -1,7 +1,9 @@
 // The pins, the commands that they bring, and the parts of a device's state; specs/ has the whole meaning of a device.
+mod bank;
 mod decoder;
 mod edges;
 mod fault;
+mod parts;
 mod pins;
 mod state;
 
