@@ -51,7 +51,8 @@ impl<T: Copy> Delay<T> {
     pub fn front(&self) -> T
         ensures { λ r. ⌜ ((d : T) → r ≡ leaving d (line (now (self .entry)))) ⌝ }
     {
-        self.first
+        let Delay { first, .. } = *self;
+        first
     }
 
     // A clock: the front leaves and x enters.
