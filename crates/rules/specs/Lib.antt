@@ -10,3 +10,4 @@ pub mod Cells
 pub mod Meaning
 pub mod Cases
 pub mod Edge
+pub mod Laws
