@@ -19,6 +19,7 @@ mod clocked;
 mod judged;
 mod made;
 
+#[derive(Drop)]
 pub struct Control {
     sheet: Sheet,
     // how many clocks have been counted

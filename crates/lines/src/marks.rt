@@ -16,6 +16,7 @@ pub enum Lap {
 }
 
 // The head is the oldest mark's place.
+#[derive(Drop)]
 pub struct Marks {
     items: [u64; 1024],
     n: usize,

@@ -8,7 +8,14 @@ impl Control {
     pub fn sheet(&self) -> Sheet
         ensures { λ r. ⌜ r ≡ state-of (now (self .entry)) .sheet ⌝ }
     {
-        self.sheet
+        let Control { sheet, .. } = self;
+        *sheet
+    }
+
+    pub fn rows(&self) -> u32
+        ensures { λ r. ⌜ r ≡ state-of (now (self .entry)) .sheet .rows ⌝ }
+    {
+        self.sheet.rows
     }
 
     // The first fault since switch-on.

@@ -56,15 +56,16 @@ impl Control {
         }
     }
 
-    // Back to switch-on, from any state.
-    pub fn switch_on(&mut self)
-        ensures { λ _. ⌜ state-of (now (self .exit)) ≡ switched-on (now (self .entry) .sheet) ⌝ }
+    // Switched on with the given sheet, from any state.
+    pub fn switch_on(&mut self, sheet: Sheet)
+        ensures { λ _. ⌜ state-of (now (self .exit)) ≡ switched-on sheet ⌝ }
     {
+        self.sheet = sheet;
         self.clock = 0;
         self.table = Table::new();
         self.registers = REGISTERS;
         self.ongoing = Ongoing::none();
-        self.reads = Delay::new(Depth::of_latency(&self.sheet), false);
+        self.reads = Delay::new(Depth::of_latency(&sheet), false);
         self.dqms = Delay::new(Depth::Two, 0);
         self.steps = STEPS;
         self.marks.clear();

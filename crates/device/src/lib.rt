@@ -1,0 +1,11 @@
+// What a device is, and the two devices: one keeps words, one keeps bit planes.
+mod cell_device;
+mod device;
+mod memory;
+
+pub use cell_device::CellDevice;
+pub use cell_device::PlaneDevice;
+pub use cell_device::WordDevice;
+pub use cell_device::clocked::CellDeviceDevice;
+pub use device::Device;
+pub use memory::MemoryError;
