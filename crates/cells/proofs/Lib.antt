@@ -1,0 +1,5 @@
+pub mod Bits
+pub mod Worded
+pub mod Planed
+pub mod Told
+pub mod Rows

@@ -1,0 +1,11 @@
+use Rattle.std.proofs.shelf.Lists.{drop-set-lt, length-set}
+use Rattle.cells.proofs.Worded.{worded-written}
+use Rattle.cells.proofs.words.WordLayout.write.Needs as need
+
+pub returns : need.returns
+returns c = record {
+  words = worded-written (c .args .-rows) (c .args .address) (c .args .mask) (c .args .word) (c .merged .result) (c .args .cells .now)
+      (c .pre .within) (c .pre .fit) (c .merged .ensures);
+  rest = drop-set-lt _ _ _ _ (c .pre .within);
+  length = length-set _ _ _;
+}
