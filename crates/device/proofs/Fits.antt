@@ -94,6 +94,9 @@ pub fits-min : (row rows size : ℕ) → row * min rows (size / row) ≤ size
 fits-min row rows size =
     le-trans (mul-le-mul-left row (min-le-right rows (size / row))) (mul-div-le size row)
 
+pub sheet-on : (s t : State) (p : Pins) → t ≡ stepped s p → t .sheet ≡ s .sheet
+sheet-on s t p h = ap (λ (u : State). u .sheet) h ∙ sheet-kept s p
+
 module _ {X : Type 0} (row : ℕ) (words : ℕ → List X → ℕ → ℕ) (some : 0 < row) where
   -- a device that is switched on with the rows that fit
   pub woken : (memory : List X) (s t : State) (l k : List ℕ) (x : Sheet) → x ≡ lowered (s .sheet) (length memory / row) → t ≡ switched-on x → k ≡ replicate (x .cl) 0
@@ -105,13 +108,12 @@ module _ {X : Type 0} (row : ℕ) (words : ℕ → List X → ℕ → ℕ) (some
       (fit, plain row words memory t k some fit
         ∙ whole (h ∙ ap switched-on e) (w ∙ ap (λ (y : Sheet). replicate (y .cl) 0) e) (ap (λ (r : ℕ). words r memory) rows))
 
+  rows-on : (s t : State) (p : Pins) → t ≡ stepped s p → t .sheet .rows ≡ s .sheet .rows
+  rows-on s t p h = ap (λ (y : Sheet). y .rows) (sheet-on s t p h)
+
   -- the rows that fit go on fitting
   fit-on : (s t : State) (p : Pins) (size : ℕ) → t ≡ stepped s p → row * s .sheet .rows ≤ size → row * t .sheet .rows ≤ size
-  fit-on s t p size h fit =
-      subst (λ (r : ℕ). row * r ≤ size) (sym (ap (λ (u : State). u .sheet .rows) h ∙ ap (λ (y : Sheet). y .rows) (sheet-kept s p))) fit
-
-  rows-on : (s t : State) (p : Pins) → t ≡ stepped s p → t .sheet .rows ≡ s .sheet .rows
-  rows-on s t p h = ap (λ (u : State). u .sheet .rows) h ∙ ap (λ (y : Sheet). y .rows) (sheet-kept s p)
+  fit-on s t p size h fit = subst (λ (r : ℕ). row * r ≤ size) (sym (rows-on s t p h)) fit
 
   -- a clock that is a fault, or comes after one
   pub held : (memory : List X) (s t : State) (l : List ℕ) (p : Pins) (f : Fault) → row * s .sheet .rows ≤ length memory → t ≡ stepped s p → Err f ≡ answered s p

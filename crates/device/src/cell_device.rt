@@ -7,6 +7,7 @@ use lines::Delay;
 
 pub mod clocked;
 mod made;
+mod ticked;
 
 #[derive(Drop)]
 pub struct CellDevice<'a, L: Layout> {

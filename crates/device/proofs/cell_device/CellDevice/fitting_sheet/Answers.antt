@@ -5,7 +5,7 @@ use denote.Ref.{now}
 use Rattle.sheet.specs.declared.sheet.Sheet.{Sheet}
 use Rattle.sheet.specs.Lowered.{lowered}
 use Rattle.device.proofs.Fits.{lowered-twice}
-use Rattle.device.proofs.cell_device.clocked.CellDeviceDevice.sheet.Needs as need
+use Rattle.device.proofs.cell_device.CellDevice.fitting_sheet.Needs as need
 
 pub returns : need.returns
 returns g c =
