@@ -1,11 +1,12 @@
 -- Memory that holds all rows, and what a clock makes of a device's meaning.
 use mathlib.Core.Path.{_≡_, refl, sym, ap, _∙_, subst}
-use mathlib.Core.List.{List}
-use Prim.Native.Nat.{ℕ, min, _*_, _/_, _≤_, _<_}
+use mathlib.Core.List.{List, [], _∷_}
+use Prim.Native.Nat.{ℕ, min, _+_, _*_, _/_, _≤_, _<_}
 use native.Mathlib.Nat.{le-div-iff-mul-le, min-eq-left, min-le-left, min-le-right, mul-comm, le-trans, mul-le-mul-left, mul-div-le}
 use native.Mathlib.Omega.{arith}
 use lib.Bits.{bitAnd}
-use lib.ListN.{length, replicate}
+use lib.ListN.{length, replicate, take, drop, getD}
+use Rattle.std.proofs.shelf.Lists.{take-more, take-all}
 use Rattle.std.specs.declared.result.Result.the-variants.{Ok, Err}
 use Rattle.sheet.specs.declared.sheet.Sheet.{Sheet}
 use Rattle.sheet.specs.Admit.{numbers}
@@ -20,11 +21,12 @@ use Rattle.rules.specs.Delay.{passed, leaving}
 use Rattle.rules.specs.Faults.{lanes-now}
 use Rattle.rules.specs.Step.{stepped}
 use Rattle.rules.specs.Cells.{work-at, done, taken}
-use Rattle.rules.specs.Meaning.{Meaning, step, out, shown, switch-on}
+use Rattle.rules.specs.Meaning.{Meaning, step, out, shown, switch-on, run}
+use Rattle.rules.proofs.Runs.{run-join}
 use Rattle.control.specs.declared.moved.Moved.{Moved}
 use Rattle.control.specs.Answer.{answered}
 use Rattle.control.proofs.Tells.{stays, goes, told, sheet-kept}
-use Rattle.device.specs.Cells.{fitted, cell-meaning}
+use Rattle.device.specs.Cells.{fitted, cell-meaning, rows-in, fresh}
 
 pub whole : {s t : State} {l k : List ℕ} {f g : ℕ → ℕ} → s ≡ t → l ≡ k → f ≡ g
     → _≡_ {A = Meaning} (record { state = s; words = l; cells = f }) (record { state = t; words = k; cells = g })
@@ -152,3 +154,38 @@ module _ {X : Type 0} (row : ℕ) (words : ℕ → List X → ℕ → ℕ) (some
         ∙ moved-step m p r e
         ∙ ap (λ (x : Meaning). step x p) (sym is),
         both lanes seen ∙ moved-out m p r e ∙ ap (λ (x : Meaning). out x p) (sym is))
+
+  -- a device just switched on over memory
+  pub fresh-is : (memory : List X) (s : State) (l : List ℕ) (x : Sheet) → s ≡ switched-on (lowered x (length memory / row)) → l ≡ replicate (x .cl) 0
+      → cell-meaning row words memory s l ≡ fresh row words x memory
+  fresh-is memory s l x h w =
+      let rows : s .sheet .rows ≡ rows-in row x memory = ap (λ (u : State). u .sheet .rows) h in
+      let fit : row * s .sheet .rows ≤ length memory = subst (λ (r : ℕ). row * r ≤ length memory) (sym rows) (fits-min row (x .rows) (length memory)) in
+      plain row words memory s l some fit ∙ whole h w (ap (λ (r : ℕ). words r memory) rows)
+
+  -- what memory holds at the end, y being what the device left
+  pub left-words : (memory y z : List X) (s t : State) (l k : List ℕ) (x : Sheet) (ps : List Pins)
+      → s ≡ switched-on (lowered x (length memory / row)) → l ≡ replicate (x .cl) 0 → t .sheet ≡ s .sheet → row * t .sheet .rows ≤ length y
+      → cell-meaning row words y t k ≡ run (cell-meaning row words memory s l) ps → z ≡ y
+      → words (rows-in row x memory) z ≡ run (fresh row words x memory) ps .cells
+  left-words memory y z s t l k x ps h w same fit after back =
+      let rows : t .sheet .rows ≡ rows-in row x memory = ap (λ (a : Sheet). a .rows) (same ∙ ap (λ (u : State). u .sheet) h) in
+      ap (words (rows-in row x memory)) back ∙ ap (λ (r : ℕ). words r y) (sym rows)
+      ∙ sym (ap (λ (m : Meaning). m .cells) (plain row words y t k some fit))
+      ∙ ap (λ (m : Meaning). m .cells) (after ∙ ap (λ (m : Meaning). run m ps) (fresh-is memory s l x h w))
+
+  pub left-rest : (memory y z : List X) (s : State) (x : Sheet) → s ≡ switched-on (lowered x (length memory / row))
+      → drop (row * s .sheet .rows) y ≡ drop (row * s .sheet .rows) memory → z ≡ y
+      → drop (row * rows-in row x memory) z ≡ drop (row * rows-in row x memory) memory
+  left-rest memory y z s x h kept back =
+      ap (drop (row * rows-in row x memory)) back
+      ∙ subst (λ (r : ℕ). drop (row * r) y ≡ drop (row * r) memory) (ap (λ (u : State). u .sheet .rows) h) kept
+
+-- one clock more of a list
+pub run-more : (m n k : Meaning) (ps : List Pins) (i : ℕ) (d : Pins) → i < length ps → n ≡ run m (take i ps) → k ≡ step n (getD ps i d) → k ≡ run m (take (i + 1) ps)
+run-more m n k ps i d h e f =
+    f ∙ ap (λ (x : Meaning). step x (getD ps i d)) e ∙ sym (run-join m (take i ps) (getD ps i d ∷ [])) ∙ ap (run m) (sym (take-more ps i d h))
+
+-- all of them
+pub run-whole : (m n : Meaning) (ps : List Pins) (i : ℕ) → length ps ≤ i → n ≡ run m (take i ps) → n ≡ run m ps
+run-whole m n ps i h e = e ∙ ap (run m) (take-all i ps h)

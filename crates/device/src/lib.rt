@@ -2,6 +2,7 @@
 mod cell_device;
 mod device;
 mod memory;
+mod replayed;
 
 pub use cell_device::CellDevice;
 pub use cell_device::PlaneDevice;
@@ -9,3 +10,4 @@ pub use cell_device::WordDevice;
 pub use cell_device::clocked::CellDeviceDevice;
 pub use device::Device;
 pub use memory::MemoryError;
+pub use replayed::replay;

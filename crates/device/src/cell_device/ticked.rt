@@ -4,7 +4,7 @@ ghost use lib.ListN.{length, drop};
 ghost use denote.Ref.{now, name};
 ghost use Rattle.sheet.specs.Lowered.{lowered};
 ghost use Rattle.rules.specs.Cells.{done, taken};
-ghost use Rattle.rules.specs.Meaning.{step, out, switch-on};
+ghost use Rattle.rules.specs.Meaning.{step, out, switch-on, run};
 ghost use Rattle.lines.specs.Line.{line};
 ghost use Rattle.beats.specs.Inside.{Inside};
 ghost use Rattle.control.specs.View.{state-of};
@@ -93,6 +93,21 @@ impl<L: Layout> CellDevice<'_, L> {
                 self.words.push(taken);
                 (lanes, word)
             }
+        }
+    }
+
+    // A list of clocks; the memory past the rows stays as it is.
+    pub fn play(&mut self, pins: &[Pins])
+        requires { ⌜ L·Layout .row * now self .control .sheet .rows ≤ length (now (now self .cells)) ⌝ }
+        ensures reachable { λ _. ⌜ L·Layout .row * now (self .exit) .control .sheet .rows ≤ length (now (now (self .exit) .cells)) ⌝ }
+        ensures after { λ _. ⌜ cell-meaning (L·Layout .row) (L·Layout .words) (now (now (self .exit) .cells)) (state-of (now (self .exit) .control)) (line (now (self .exit) .words)) ≡ run (cell-meaning (L·Layout .row) (L·Layout .words) (now (now (self .entry) .cells)) (state-of (now (self .entry) .control)) (line (now (self .entry) .words))) (now (pins .entry)) ⌝ }
+        ensures lender { λ _. ⌜ name (now (self .exit) .cells) ≡ name (now (self .entry) .cells) ⌝ }
+        ensures rest { λ _. ⌜ drop (L·Layout .row * now (self .entry) .control .sheet .rows) (now (now (self .exit) .cells)) ≡ drop (L·Layout .row * now (self .entry) .control .sheet .rows) (now (now (self .entry) .cells)) ⌝ }
+        ensures length { λ _. ⌜ length (now (now (self .exit) .cells)) ≡ length (now (now (self .entry) .cells)) ⌝ }
+        ensures sheet { λ _. ⌜ now (self .exit) .control .sheet ≡ now (self .entry) .control .sheet ⌝ }
+    {
+        for p in pins {
+            let _ = self.tick(*p);
         }
     }
 }
