@@ -26,8 +26,6 @@ pub fn is_too_close(
 ) -> bool
     ensures { λ r. ⌜ r ≡ too-close (now (sheet .entry)) (pair (now (table .entry))) blocked t command ⌝ }
 {
-    let a = table.get(BankName::A);
-    let b = table.get(BankName::B);
     match command {
         Command::Column { bank, .. } => is_short(table.get(bank).opened, sheet.rcd, t)
             || is_short(blocked, sheet.bwc, t),
@@ -42,17 +40,23 @@ pub fn is_too_close(
                 || is_short(table.get(bank.other()).opened, sheet.rrd, t)
         }
         Command::Precharge { both, bank } => {
+            let a = table.get(BankName::A);
+            let b = table.get(BankName::B);
             (both || bank.is(BankName::A)) && is_closing_early(sheet, t, a)
                 || (both || bank.is(BankName::B)) && is_closing_early(sheet, t, b)
         }
         Command::Refresh => {
+            let a = table.get(BankName::A);
+            let b = table.get(BankName::B);
             is_short(a.closed, sheet.rp, t)
                 || is_short(b.closed, sheet.rp, t)
                 || is_short(a.opened, sheet.rc, t)
                 || is_short(b.opened, sheet.rc, t)
         }
-        Command::LoadMode { code: _ } => is_short(a.closed, sheet.rp, t)
-            || is_short(b.closed, sheet.rp, t),
+        Command::LoadMode { code: _ } => {
+            is_short(table.get(BankName::A).closed, sheet.rp, t)
+                || is_short(table.get(BankName::B).closed, sheet.rp, t)
+        }
         Command::LoadSpecial { code: _ } => is_short(blocked, sheet.bwc, t),
         _ => false,
     }
