@@ -8,7 +8,7 @@ use Rattle.cells.proofs.words.WordLayout.block.Needs as need
 pub loop-k-again : need.loop-k-again
 loop-k-again c = (
   partly-more (c .args .address) (c .args .columns) (c .args .mask) (c .args .colour) (c .loop-k .k) (c .merged .result)
-      (held (c .args .cells .now)) (c .loop-k .cells) (c .loop-k-test .taken) (search needs) (c .loop-k .inv .0)
+      (held (c .args .cells .now)) (c .loop-k .cells) (search needs) (search needs) (c .loop-k .inv .0)
       (c .merged .ensures ∙ simp (c .column .ensures)),
   drop-set-lt (512 * c .args .-rows) (c .loop-k .cells) (c .args .address / 8 * 8 + c .loop-k .k) (c .merged .result) (search needs) ∙ c .loop-k .inv .1,
 )
