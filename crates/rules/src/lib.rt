@@ -11,6 +11,7 @@ mod state;
 pub use decoder::decode;
 pub use edges::edges_stand;
 pub use fault::Fault;
+pub use fault::FaultPartialEq;
 pub use fault::Rule;
 pub use laws::burst_visits;
 pub use laws::cells_kept;

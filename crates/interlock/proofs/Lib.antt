@@ -1,0 +1,5 @@
+pub mod Guarded
+pub mod Same
+pub mod Placed
+pub mod Agreed
+pub mod Ran

@@ -1,0 +1,3 @@
+pub mod Guard
+pub mod Alike
+pub mod Agree
