@@ -1,0 +1,5 @@
+pub mod Joins
+pub mod Widths
+pub mod Turns
+pub mod Pages
+pub mod Memory

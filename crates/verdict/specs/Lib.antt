@@ -1,0 +1,4 @@
+pub mod Wrote
+pub mod Page
+pub mod Sheets
+pub mod Judged

@@ -1,0 +1,6 @@
+// The judge: what it says of any text, over plane memory and an output that a host lends.
+mod clocking;
+mod page;
+mod planes;
+mod running;
+mod writing;
