@@ -3,3 +3,8 @@ pub mod Widths
 pub mod Turns
 pub mod Pages
 pub mod Memory
+pub mod Exact
+pub mod Refused
+pub mod Cased
+pub mod Blank
+pub mod Judgements

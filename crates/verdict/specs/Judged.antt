@@ -1,7 +1,8 @@
 -- What the judge says of a text.
+use mathlib.Core.Path.{_≡_}
 use mathlib.Core.Bool.{cond}
 use mathlib.Core.List.{List, [], _∷_, _++_}
-use Prim.Native.Nat.{ℕ, _+_, _*_}
+use Prim.Native.Nat.{ℕ, _+_, _*_, _^_, _<_, _≤_}
 use lib.Dec.{leb}
 use lib.ListN.{length, getD, drop, replicate}
 use Rattle.std.specs.declared.result.Result.{Result}
@@ -13,9 +14,10 @@ use Rattle.rules.specs.Meaning.{Meaning, run}
 use Rattle.cells.specs.Planes.{picture}
 use Rattle.trace.specs.declared.refusal.Refusal.{Refusal}
 use Rattle.trace.specs.declared.refusal.Refusal.the-variants.{ShortMemory, ShortOutput}
+use Rattle.trace.specs.declared.text.Trace.{Trace}
 use Rattle.trace.specs.Answer.{Reply, answer, on, then}
 use Rattle.trace.specs.Opening.{heading-of}
-use Rattle.trace.specs.Body.{clocks-of}
+use Rattle.trace.specs.Body.{clocks, clocks-of}
 use Rattle.verdict.specs.Sheets.{sheet-of}
 use Rattle.verdict.specs.Page.{page}
 
@@ -73,3 +75,18 @@ output-after (Err e) before = before
 -- how many bytes are written
 abbrev pub written : Reply Said → Reply ℕ
 written r = on (λ s. length (s .output)) r
+
+-- what is known of a text that is judged as t
+pub record Fit (text : List ℕ) (planes out : ℕ) (t : Trace) : Type 0 where
+  pub case : case-of text planes out ≡ Ok (record { sheet = t .sheet; clocks = clocks (drop (t .body) text) })
+  pub within : t .body ≤ length text
+  pub read : clocks-of (drop (t .body) text) ≡ Ok (clocks (drop (t .body) text))
+  pub count : length (clocks (drop (t .body) text)) ≡ t .clocks
+  pub few : t .clocks < 9999
+  pub rows : planes-for (t .sheet .rows) ≤ planes
+  pub room : output-for (t .clocks) ≤ out
+
+-- and of one that is refused; the place or line is small
+pub record Unfit (text : List ℕ) (planes out : ℕ) (e : Refusal) : Type 0 where
+  pub case : case-of text planes out ≡ Err (answer e)
+  pub place : getD (answer e .1) 0 0 < 2 ^ 32
