@@ -54,8 +54,7 @@ fresh-blank x before after fit e =
     let n : ℕ = 2048 * x .rows in
     let long : length after ≡ length before = ap length e ∙ simp (length-append, length-replicate, length-drop) (omega arith) in
     let k : x .rows ≤ length after / 2048 = rows-fit 2048 (x .rows) (length after) (lit< tt) (omega arith) in
-    let rows : rows-in 2048 x after ≡ x .rows = min-eq-left k in
-    (
+    let rows : rows-in 2048 x after ≡ x .rows = min-eq-left k in (
       whole (ap switched-on (lowered-same x (length after / 2048) k)) refl (ap (λ (r : ℕ). planed r after) rows ∙ ap (planed (x .rows)) e ∙ cells-zero (x .rows) before),
       ap (drop n) e ∙ drop-append-drop n before (replicate n 0) n (omega arith) (length-replicate n 0),
     )

@@ -8,3 +8,6 @@ pub mod Refused
 pub mod Cased
 pub mod Blank
 pub mod Judgements
+pub mod Plainly
+pub mod Lasts
+pub mod Verdicts

@@ -19,7 +19,12 @@ use device::CellDevice;
 use trace::pins_at;
 
 // Clocks the device through the lines, and writes what each clock answers; answers how many bytes were written.
-pub fn clock_through(device: &mut CellDevice<'_, Planes>, body: &[u8], count: usize, out: &mut [u8]) -> usize
+pub fn clock_through(
+    device: &mut CellDevice<'_, Planes>,
+    body: &[u8],
+    count: usize,
+    out: &mut [u8],
+) -> usize
     requires fit { ⌜ 2048 * now device .control .sheet .rows ≤ length (now (now device .cells)) ⌝ }
     requires read { ⌜ clocks-of (now body) ≡ Ok (clocks (now body)) ⌝ }
     requires count { ⌜ length (clocks (now body)) ≡ count ⌝ }

@@ -110,7 +110,14 @@ fn put_verdict(out: &mut [u8], at: usize, clocks: u64, fault: Option<Fault>) -> 
 }
 
 // The rows of banks A and B, and the verdict.
-pub fn put_end(out: &mut [u8], at: usize, a: Row, b: Row, clocks: u64, fault: Option<Fault>) -> usize
+pub fn put_end(
+    out: &mut [u8],
+    at: usize,
+    a: Row,
+    b: Row,
+    clocks: u64,
+    fault: Option<Fault>,
+) -> usize
     requires small { ⌜ clocks < 10000 ⌝ }
     requires early { ⌜ found fault (λ f. f .clock < 10000) ⌝ }
     requires room { ⌜ at + 64 ≤ length (now out) ⌝ }

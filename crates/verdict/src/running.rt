@@ -22,7 +22,13 @@ use sheet::Sheet;
 
 // Runs the lines on the planes as they are, and writes the whole output; answers its length. Afterwards the planes
 // hold the device's cells, and past its rows what they held.
-pub fn run_lines(sheet: Sheet, body: &[u8], count: usize, planes: &mut [u8], out: &mut [u8]) -> usize
+pub fn run_lines(
+    sheet: Sheet,
+    body: &[u8],
+    count: usize,
+    planes: &mut [u8],
+    out: &mut [u8],
+) -> usize
     requires fit { ⌜ 2048 * sheet .rows ≤ length (now planes) ⌝ }
     requires read { ⌜ clocks-of (now body) ≡ Ok (clocks (now body)) ⌝ }
     requires count { ⌜ length (clocks (now body)) ≡ count ⌝ }

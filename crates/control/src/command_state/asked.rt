@@ -27,6 +27,7 @@ impl Control {
     {
         self.fault
     }
+
     pub fn bank(&self, name: BankName) -> Bank
         ensures { λ r. ⌜ r ≡ at (state-of (now (self .entry)) .banks) name ⌝ }
     {

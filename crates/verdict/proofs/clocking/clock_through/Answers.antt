@@ -21,8 +21,7 @@ loop-k-again c =
     let t = c .tick-lanes .ensures in
     let i = c .loop-k .inv in
     let ps = clocks (c .args .body .now) in
-    let p = c .in-Some .ensures tt .listed _ (c .pre .read) in
-    (
+    let p = c .in-Some .ensures tt .listed _ (c .pre .read) in (
       t .reachable,
       run-next _ _ _ ps (c .loop-k .k) (c .in-Some .pins) p (i .1) (t .after),
       wrote-as (text-next _ _ ps (c .loop-k .k) (c .in-Some .pins) (c .tick-lanes .result) p (i .1) (t .answer)) (wrote-both (i .2) (c .put-clock-end .ensures .wrote)),

@@ -38,6 +38,6 @@ returns c =
     let ps = ap clocks (take-rest text (t .body)) in
     let went = c .run-lines .ensures in
     let s = spoken text _ _ t (now (c .args .planes)) _ (now (c .args .out)) _ _ f
-        (wrote-as (λ i. page (blank .0 i) (ps i)) (went .wrote))
-        (went .planes ∙ (λ i. picture (x .rows) (run (blank .0 i) (ps i) .cells) ++ blank .1 i)) in
+    (wrote-as (λ i. page (blank .0 i) (ps i)) (went .wrote))
+    (went .planes ∙ (λ i. picture (x .rows) (run (blank .0 i) (ps i) .cells) ++ blank .1 i)) in
     record { answer = s .0; planes = s .1; out = s .2; place = tt }
