@@ -5,7 +5,7 @@ use mathlib.Core.List.{List, [], _∷_, _++_, append-assoc, append-nil}
 use Prim.Native.Nat.{ℕ, zero, suc, _+_, _-_, _/_, _%_, _<_, _≤_}
 use native.Mathlib.Nat.{add-zero}
 use native.Mathlib.Omega.{arith}
-use lib.ListN.{length, take, drop, set, length-append, length-set}
+use lib.ListN.{length, take, drop, set, length-append, length-set, length-take}
 use Rattle.std.proofs.shelf.Lists.{drop-drop, take-more-set, drop-set-lt, take-append-drop}
 use Rattle.std.specs.Written.{glyph}
 use Rattle.verdict.specs.Wrote.{Wrote}
@@ -56,3 +56,6 @@ pub wrote-all : {a b s : List ℕ} {j : ℕ} → Wrote a 0 s b j → (j ≡ leng
 wrote-all {a} {b} {s} {j} w =
     let e : j ≡ length s = omega (arith, w .ends) in
     (e, sym (take-append-drop j b) ∙ ap (λ (x : List ℕ). x ++ drop j b) (w .front) ∙ ap (λ (x : List ℕ). s ++ x) (w .rest ∙ ap (λ (n : ℕ). drop n a) e))
+
+pub wrote-within : {a b s : List ℕ} {j : ℕ} → Wrote a 0 s b j → j ≤ length a
+wrote-within {a} {b} {s} {j} w = omega (arith, w .ends, w .long, ap length (w .front), length-take j b)

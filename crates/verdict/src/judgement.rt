@@ -1,7 +1,7 @@
 ghost use mathlib.Core.Path.{_≡_};
-ghost use Prim.Native.Nat.{_^_, _<_};
+ghost use Prim.Native.Nat.{_^_, _<_, _≤_};
 ghost use lib.ListN.{length, getD};
-ghost use Rattle.std.specs.Vec.{refused};
+ghost use Rattle.std.specs.Vec.{made, refused};
 ghost use Rattle.trace.specs.Answer.{answer, told};
 ghost use Rattle.verdict.specs.Judged.{judged, written, planes-after, output-after};
 use crate::examined::examine;
@@ -19,6 +19,7 @@ pub fn judge(text: &[u8], planes: &mut [u8], out: &mut [u8]) -> Result<usize, Re
     ensures answer { λ r. ⌜ told (λ n. n) r ≡ written (judged (now (text .entry)) (length (now (planes .entry))) (length (now (out .entry)))) ⌝ }
     ensures planes { λ _. ⌜ now (planes .exit) ≡ planes-after (judged (now (text .entry)) (length (now (planes .entry))) (length (now (out .entry)))) (now (planes .entry)) ⌝ }
     ensures out { λ _. ⌜ now (out .exit) ≡ output-after (judged (now (text .entry)) (length (now (planes .entry))) (length (now (out .entry)))) (now (out .entry)) ⌝ }
+    ensures within { λ r. ⌜ made r (λ n. n ≤ length (now (out .entry))) ⌝ }
     ensures place { λ r. ⌜ refused r (λ e. getD (answer e .1) 0 0 < 2 ^ 32) ⌝ }
 {
     let Trace {

@@ -10,7 +10,7 @@ use Rattle.cells.specs.Planes.{planed, picture}
 use Rattle.device.specs.Cells.{fresh}
 use Rattle.trace.specs.Body.{clocks}
 use Rattle.verdict.specs.Page.{page}
-use Rattle.verdict.proofs.Joins.{wrote-as}
+use Rattle.verdict.proofs.Joins.{wrote-as, wrote-within}
 use Rattle.verdict.proofs.Blank.{fresh-blank}
 use Rattle.verdict.proofs.Judgements.{spoken}
 use Rattle.verdict.proofs.judgement.judge.Needs as need
@@ -37,7 +37,7 @@ returns c =
     let blank = fresh-blank x (now (c .args .planes)) (c .clear .last .planes) (f .rows) (c .clear .ensures) in
     let ps = ap clocks (take-rest text (t .body)) in
     let went = c .run-lines .ensures in
-    let s = spoken text _ _ t (now (c .args .planes)) _ (now (c .args .out)) _ _ f
-    (wrote-as (λ i. page (blank .0 i) (ps i)) (went .wrote))
+    let w = wrote-as (λ i. page (blank .0 i) (ps i)) (went .wrote) in
+    let s = spoken text _ _ t (now (c .args .planes)) _ (now (c .args .out)) _ _ f w
     (went .planes ∙ (λ i. picture (x .rows) (run (blank .0 i) (ps i) .cells) ++ blank .1 i)) in
-    record { answer = s .0; planes = s .1; out = s .2; place = tt }
+    record { answer = s .0; planes = s .1; out = s .2; within = wrote-within w; place = tt }
