@@ -3,7 +3,8 @@ use mathlib.Core.Path.{_≡_, sym, ap, _∙_, fun-ext}
 use mathlib.Core.Bool.{true, false, cond, _&&_}
 use mathlib.Core.Logic.{⊎-elim, _≢_}
 use mathlib.Core.List.{List}
-use Prim.Native.Nat.{ℕ, suc, _+_, _*_, _/_, _%_, _<_, _≤_}
+use Prim.Native.Nat.{ℕ, suc, _+_, _*_, _/_, _%_, _^_, _<_, _≤_}
+use native.Mathlib.Nat.{mod-eq-of-lt}
 use native.Mathlib.Omega.{arith}
 use lib.Dec.{eqb, ltb}
 use lib.Bits.{bitAnd}
@@ -17,15 +18,15 @@ use Rattle.cells.proofs.Bits.{block-past}
 
 -- the memory alone, without the last address
 abbrev pub held : List ℕ → ℕ → ℕ
-held cells a = getD cells a 0
+held cells a = getD cells a 0 % 2 ^ 32
 
 -- one word
-pub held-written : (t mask word v : ℕ) (cells : List ℕ) → t < length cells → v ≡ put mask word (held cells t)
+pub held-written : (t mask word v : ℕ) (cells : List ℕ) → t < length cells → v < 2 ^ 32 → v ≡ put mask word (held cells t)
     → (a : ℕ) → held (set cells t v) a ≡ written t mask word (held cells) a
-held-written t mask word v cells h e a =
+held-written t mask word v cells h small e a =
     ⊎-elim
-    (λ s. rw (s .0, s .1) (getD-set-same cells t v 0 h ∙ e))
-    (λ o. rw (o .0) (getD-set-other cells t a v 0 (o .1)))
+    (λ s. rw (s .0, s .1) (ap (λ (x : ℕ). x % 2 ^ 32) (getD-set-same cells t v 0 h) ∙ mod-eq-of-lt small ∙ e))
+    (λ o. rw (o .0) (ap (λ (x : ℕ). x % 2 ^ 32) (getD-set-other cells t a v 0 (o .1))))
     (eqb-tells a t)
 
 -- the first k columns of the block that t lies in
@@ -41,18 +42,18 @@ here a t k h e = (grind (arith, tells), grind (arith, tells), omega arith)
 
 pub partly-more : (t columns mask colour k v : ℕ) (cells : ℕ → ℕ) (ys : List ℕ) → k < 8 → t / 8 * 8 + k < length ys
     → ((a : ℕ) → held ys a ≡ partly t columns mask colour k cells a)
-    → v ≡ put (bitAnd (wide (chosen columns k)) mask) colour (held ys (t / 8 * 8 + k))
+    → v < 2 ^ 32 → v ≡ put (bitAnd (wide (chosen columns k)) mask) colour (held ys (t / 8 * 8 + k))
     → (a : ℕ) → held (set ys (t / 8 * 8 + k) v) a ≡ partly t columns mask colour (k + 1) cells a
-partly-more t columns mask colour k v cells ys hk hl inv e a =
+partly-more t columns mask colour k v cells ys hk hl inv small e a =
     ⊎-elim
     (λ s.
     let w = here a t k hk (s .1) in
     let old : held ys a ≡ cells a = inv a ∙ rw (w .0) in
     rw (w .1)
     (ap (held (set ys (t / 8 * 8 + k) v)) (s .1) ∙
-    getD-set-same ys (t / 8 * 8 + k) v 0 hl ∙
+    ap (λ (x : ℕ). x % 2 ^ 32) (getD-set-same ys (t / 8 * 8 + k) v 0 hl) ∙ mod-eq-of-lt small ∙
     e ∙ rw (← s .1, w .2, old)))
-    (λ o. getD-set-other ys (t / 8 * 8 + k) a v 0 (o .1) ∙ inv a ∙ rw (next a t k hk (o .1)))
+    (λ o. ap (λ (x : ℕ). x % 2 ^ 32) (getD-set-other ys (t / 8 * 8 + k) a v 0 (o .1)) ∙ inv a ∙ rw (next a t k hk (o .1)))
     (eqb-tells a (t / 8 * 8 + k))
 
 all-eight : (a t k : ℕ) → 8 ≤ k → (eqb (a / 8) (t / 8) && ltb (a % 8) k) ≡ eqb (a / 8) (t / 8)
@@ -73,13 +74,13 @@ worded-by rows xs ys f past local e =
     (λ o. let out : 512 * rows ≤ a = omega (arith, o .1) in rw (o .0) (sym (past (worded rows xs) a out ∙ rw (o .0))))
     (leb-tells (suc a) (512 * rows)))
 
-pub worded-written : (rows t mask word v : ℕ) (xs : List ℕ) → t < 512 * rows → 512 * rows ≤ length xs → v ≡ put mask word (held xs t)
+pub worded-written : (rows t mask word v : ℕ) (xs : List ℕ) → t < 512 * rows → 512 * rows ≤ length xs → v < 2 ^ 32 → v ≡ put mask word (held xs t)
     → worded rows (set xs t v) ≡ written t mask word (worded rows xs)
-worded-written rows t mask word v xs h fit e =
+worded-written rows t mask word v xs h fit small e =
     worded-by rows xs (set xs t v) (written t mask word)
     (λ g a out. let ne : eqb a t ≡ false = grind (arith, tells) in rw ne)
     (λ g h a s. rw s)
-    (held-written t mask word v xs (omega arith) e)
+    (held-written t mask word v xs (omega arith) small e)
 
 pub worded-painted : (rows t columns mask colour : ℕ) (xs ys : List ℕ) → t < 512 * rows
     → ((a : ℕ) → held ys a ≡ painted t columns mask colour (held xs) a)
@@ -89,3 +90,7 @@ worded-painted rows t columns mask colour xs ys h e =
     (λ g a out. rw (block-past rows a t out h))
     (λ g h a s. rw s)
     e
+
+-- a number that is a word already
+pub whole : (x : ℕ) → x < 2 ^ 32 → x ≡ x % 2 ^ 32
+whole x h = sym (mod-eq-of-lt h)

@@ -1,6 +1,6 @@
 ghost use mathlib.Core.Path.{_≡_};
 ghost use mathlib.Core.List.{List};
-ghost use Prim.Native.Nat.{ℕ, min, _*_, _/_, _<_, _≤_};
+ghost use Prim.Native.Nat.{ℕ, min, _*_, _/_, _^_, _<_, _≤_};
 ghost use lib.Dec.{leb};
 ghost use lib.ListN.{length, drop};
 ghost use Rattle.rules.specs.Cells.{written, painted};
@@ -21,6 +21,9 @@ pub trait Layout {
 
     // past the last address there is zero
     law past: { (rows : ℕ) (cells : List Self·Cell) (a : ℕ) → 512 * rows ≤ a → words rows cells a ≡ 0 };
+
+    // each is a word of 32 bits
+    law small: { (rows : ℕ) (cells : List Self·Cell) (a : ℕ) → words rows cells a < 2 ^ 32 };
 
     // How many cells a row takes.
     fn per_row() -> usize

@@ -98,13 +98,11 @@ pub impl Layout for Planes as PlaneLayout {
 }
 
 // Which bit of the memory holds which bit of a word, and that the words tell each byte of their rows.
-pub fn planes_stand() -> u8
+pub fn planes_stand()
     ensures bits { λ _. ⌜ Laid-out ⌝ }
     ensures bytes { λ _. ⌜ All-told ⌝ }
     ensures same { λ _. ⌜ Same-bytes ⌝ }
-{
-    0
-}
+{}
 
 // The words tell each byte of their rows in this memory. The loop is for the proof, which knows a byte below 256 where it is read.
 pub fn planes_told(bytes: &[u8], rows: usize)

@@ -106,9 +106,11 @@ module _ {X : Type 0} (row : ℕ) (words : ℕ → List X → ℕ → ℕ) (some
   woken memory s t l k x e h w =
       let n = length memory / row in
       let rows : t .sheet .rows ≡ min (s .sheet .rows) n = ap (λ (u : State). u .sheet .rows) h ∙ ap (λ (y : Sheet). y .rows) e in
-      let fit : row * t .sheet .rows ≤ length memory = subst (λ (r : ℕ). row * r ≤ length memory) (sym rows) (fits-min row (s .sheet .rows) (length memory)) in
-      (fit, plain row words memory t k some fit
-        ∙ whole (h ∙ ap switched-on e) (w ∙ ap (λ (y : Sheet). replicate (y .cl) 0) e) (ap (λ (r : ℕ). words r memory) rows))
+      let fit : row * t .sheet .rows ≤ length memory = subst (λ (r : ℕ). row * r ≤ length memory) (sym rows) (fits-min row (s .sheet .rows) (length memory)) in (
+        fit,
+        plain row words memory t k some fit
+            ∙ whole (h ∙ ap switched-on e) (w ∙ ap (λ (y : Sheet). replicate (y .cl) 0) e) (ap (λ (r : ℕ). words r memory) rows),
+      )
 
   rows-on : (s t : State) (p : Pins) → t ≡ stepped s p → t .sheet .rows ≡ s .sheet .rows
   rows-on s t p h = ap (λ (y : Sheet). y .rows) (sheet-on s t p h)
@@ -123,13 +125,14 @@ module _ {X : Type 0} (row : ℕ) (words : ℕ → List X → ℕ → ℕ) (some
   held memory s t l p f fit h e =
       let m : Meaning = record { state = s; words = l; cells = words (s .sheet .rows) memory } in
       let is : cell-meaning row words memory s l ≡ m = plain row words memory s l some fit in
-      let fit′ : row * t .sheet .rows ≤ length memory = fit-on s t p (length memory) h fit in
-      (fit′,
+      let fit′ : row * t .sheet .rows ≤ length memory = fit-on s t p (length memory) h fit in (
+        fit′,
         plain row words memory t l some fit′
-        ∙ whole h refl (ap (λ (r : ℕ). words r memory) (rows-on s t p h))
-        ∙ held-step m p f e
-        ∙ ap (λ (x : Meaning). step x p) (sym is),
-        held-out m p f e ∙ ap (λ (x : Meaning). out x p) (sym is))
+            ∙ whole h refl (ap (λ (r : ℕ). words r memory) (rows-on s t p h))
+            ∙ held-step m p f e
+            ∙ ap (λ (x : Meaning). step x p) (sym is),
+        held-out m p f e ∙ ap (λ (x : Meaning). out x p) (sym is),
+      )
 
   -- a clock that is no fault
   pub went : (memory memory′ : List X) (s t : State) (l l′ : List ℕ) (p : Pins) (r : Moved) (word bits : ℕ)
@@ -139,21 +142,22 @@ module _ {X : Type 0} (row : ℕ) (words : ℕ → List X → ℕ → ℕ) (some
       → l′ ≡ passed l (taken (r .work) (words (s .sheet .rows) memory))
       → word ≡ leaving 0 l → bits ≡ wide (r .lanes)
       → (row * t .sheet .rows ≤ length memory′) × (cell-meaning row words memory′ t l′ ≡ step (cell-meaning row words memory s l) p)
-        × ((r .lanes, bitAnd word bits) ≡ out (cell-meaning row words memory s l) p)
+      × ((r .lanes, bitAnd word bits) ≡ out (cell-meaning row words memory s l) p)
   went memory memory′ s t l l′ p r word bits fit h e long cells line front wided =
       let m : Meaning = record { state = s; words = l; cells = words (s .sheet .rows) memory } in
       let is : cell-meaning row words memory s l ≡ m = plain row words memory s l some fit in
       let says = told s p r e in
       let fit′ : row * t .sheet .rows ≤ length memory′ = subst (λ (k : ℕ). row * t .sheet .rows ≤ k) (sym long) (fit-on s t p (length memory) h fit) in
       let lanes : r .lanes ≡ lanes-now s = says .1 in
-      let seen : bitAnd word bits ≡ bitAnd (leaving 0 l) (wide (lanes-now s)) = ap (λ (x : ℕ). bitAnd x bits) front ∙ ap (λ (x : ℕ). bitAnd (leaving 0 l) x) (wided ∙ ap wide lanes) in
-      (fit′,
+      let seen : bitAnd word bits ≡ bitAnd (leaving 0 l) (wide (lanes-now s)) = ap (λ (x : ℕ). bitAnd x bits) front ∙ ap (λ (x : ℕ). bitAnd (leaving 0 l) x) (wided ∙ ap wide lanes) in (
+        fit′,
         plain row words memory′ t l′ some fit′
-        ∙ whole h (line ∙ ap (λ (x : Work). passed l (taken x (m .cells))) (says .0))
+            ∙ whole h (line ∙ ap (λ (x : Work). passed l (taken x (m .cells))) (says .0))
             (ap (λ (k : ℕ). words k memory′) (rows-on s t p h) ∙ cells ∙ ap (λ (x : Work). done x (m .cells)) (says .0))
-        ∙ moved-step m p r e
-        ∙ ap (λ (x : Meaning). step x p) (sym is),
-        both lanes seen ∙ moved-out m p r e ∙ ap (λ (x : Meaning). out x p) (sym is))
+            ∙ moved-step m p r e
+            ∙ ap (λ (x : Meaning). step x p) (sym is),
+        both lanes seen ∙ moved-out m p r e ∙ ap (λ (x : Meaning). out x p) (sym is),
+      )
 
   -- a device just switched on over memory
   pub fresh-is : (memory : List X) (s : State) (l : List ℕ) (x : Sheet) → s ≡ switched-on (lowered x (length memory / row)) → l ≡ replicate (x .cl) 0

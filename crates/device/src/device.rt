@@ -1,4 +1,5 @@
 ghost use mathlib.Core.Path.{_≡_};
+ghost use Prim.Native.Nat.{ℕ, _<_, _^_};
 ghost use Rattle.rules.specs.Meaning.{Meaning, step, out, switch-on, word-at};
 use rules::Fault;
 use rules::Pins;
@@ -11,10 +12,11 @@ pub trait Device {
     // the states that switch-on and clocks can leave
     ghost reachable: { Self → Type 0 };
 
-    // From any state.
+    // From any state. Every cell holds a word of 32 bits.
     fn switch_on(&mut self)
         ensures reachable { λ _. ⌜ reachable (now (self .exit)) ⌝ }
-        ensures after { λ _. ⌜ meaning (now (self .exit)) ≡ switch-on (meaning (now (self .entry))) ⌝ };
+        ensures after { λ _. ⌜ meaning (now (self .exit)) ≡ switch-on (meaning (now (self .entry))) ⌝ }
+        ensures words { λ _. ⌜ ((a : ℕ) → meaning (now (self .exit)) .cells a < 2 ^ 32) ⌝ };
 
     // The lanes driven at this clock, and the word, zero in the lanes that are not.
     fn clock(&mut self, pins: Pins) -> (u8, u32)

@@ -60,6 +60,8 @@ pub fn decode(pins: Pins) -> Command
         (_, Level::Low, Level::High, Level::Low, _) => Command::Precharge { both: a8, bank },
         (_, Level::Low, Level::Low, Level::High, _) => Command::Refresh,
         (_, Level::Low, Level::Low, Level::Low, Level::Low) => Command::LoadMode { code: address },
-        (_, Level::Low, Level::Low, Level::Low, Level::High) => Command::LoadSpecial { code: address },
+        (_, Level::Low, Level::Low, Level::Low, Level::High) => Command::LoadSpecial {
+            code: address,
+        },
     }
 }

@@ -103,17 +103,17 @@ impl Beat {
         ensures { λ r. ⌜ r ≡ wrote name dqm self ⌝ }
     {
         match self {
+            Beat::Rest => false,
             Beat::At {
-                access: Access::Write,
+                access: Access::Read,
+                bank: _,
+                column: _,
+            } => false,
+            Beat::At {
+                access: _,
                 bank,
                 column: _,
             } => bank.is(name) && dqm < 15,
-            Beat::At {
-                access: Access::Block,
-                bank,
-                column: _,
-            } => bank.is(name) && dqm < 15,
-            _ => false,
         }
     }
 }

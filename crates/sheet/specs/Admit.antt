@@ -28,19 +28,19 @@ answer (Err e) = refusal e
 -- the least and the largest number that a field may be, in the order of the fields
 abbrev pub ranges : List (ℕ × ℕ)
 ranges =
-    (1, 3)             -- cl
-    ∷ ((0, 512)        -- rows
-    ∷ ((1, 15)         -- rcd
-    ∷ ((1, 15)         -- rp
-    ∷ ((1, 31)         -- ras
-    ∷ ((2048, 65535)   -- rasmax
-    ∷ ((1, 63)         -- rc
-    ∷ ((1, 15)         -- rrd
-    ∷ ((1, 7)          -- wr
-    ∷ ((1, 7)          -- bwc
-    ∷ ((2, 1024)       -- n
-    ∷ ((0, 2147483648) -- ret
-    ∷ ((0, 65535)      -- pup
+    (1, 3)  -- cl
+    ∷ ((0, 512)  -- rows
+    ∷ ((1, 15)  -- rcd
+    ∷ ((1, 15)  -- rp
+    ∷ ((1, 31)  -- ras
+    ∷ ((2048, 65535)  -- rasmax
+    ∷ ((1, 63)  -- rc
+    ∷ ((1, 15)  -- rrd
+    ∷ ((1, 7)  -- wr
+    ∷ ((1, 7)  -- bwc
+    ∷ ((2, 1024)  -- n
+    ∷ ((0, 2147483648)  -- ret
+    ∷ ((0, 65535)  -- pup
     ∷ []))))))))))))
 
 abbrev pub out-of : ℕ → ℕ × ℕ → Bool

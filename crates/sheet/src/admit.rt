@@ -6,7 +6,19 @@ use crate::sheet::Sheet;
 pub const FIELDS: usize = 13;
 
 pub const NAMES: [&str; FIELDS] = [
-    "cl", "rows", "rcd", "rp", "ras", "rasmax", "rc", "rrd", "wr", "bwc", "n", "ret", "pup",
+    "cl",
+    "rows",
+    "rcd",
+    "rp",
+    "ras",
+    "rasmax",
+    "rc",
+    "rrd",
+    "wr",
+    "bwc",
+    "n",
+    "ret",
+    "pup",
 ];
 
 #[derive(Clone, Copy, PartialEq, Eq, Debug)]

@@ -31,8 +31,10 @@ fn on_planes(rt: &LibcRuntime, clocks: &Clocks, rounds: u32) -> Result<u32, AnyE
 fn run(rt: &LibcRuntime) -> Result<(), AnyError> {
     let mut args = env::args(rt)?;
     let _program = args.next();
-    let kind = args.next().ok_or("usage: speed words|planes ROUNDS < TRACE")?;
-    let rounds = args.next().ok_or("usage: speed words|planes ROUNDS < TRACE")?;
+    let kind = args.next()
+        .ok_or("usage: speed words|planes ROUNDS < TRACE")?;
+    let rounds = args.next()
+        .ok_or("usage: speed words|planes ROUNDS < TRACE")?;
     let rounds = rounds.as_str().parse::<u32>()?;
     let clocks = read_clocks(rt)?;
     let sum = if kind.as_str() == "words" {

@@ -23,7 +23,7 @@ returns g c =
     let s = state-of (d .control) in
     let start = c .new-device .ensures in
     let after : cell-meaning row words (now (e .cells)) (state-of (e .control)) (line (e .words)) ≡ run (cell-meaning row words memory s (line (d .words))) ps =
-        subst (λ xs. cell-meaning row words (now (e .cells)) (state-of (e .control)) (line (e .words)) ≡ run (cell-meaning row words xs s (line (d .words))) ps) (start .memory) (c .play .ensures .after) in
+    subst (λ xs. cell-meaning row words (now (e .cells)) (state-of (e .control)) (line (e .words)) ≡ run (cell-meaning row words xs s (line (d .words))) ps) (start .memory) (c .play .ensures .after) in
     record {
       fault = c .fault .ensures ∙ ap (λ (m : Meaning). m .state .fault) (after ∙ ap (λ (m : Meaning). run m ps) (fresh-is row words some memory s (line (d .words)) (c .args .sheet) (start .state) (start .words)));
       words = left-words row words some memory (now (e .cells)) _ s (state-of (e .control)) (line (d .words)) (line (e .words)) (c .args .sheet) ps

@@ -10,8 +10,7 @@ pub loop-p-again : need.loop-p-again
 loop-p-again g c =
     let t = c .tick .ensures in
     let i = c .loop-p .inv in
-    let row = g .L·Layout .row in
-    (
+    let row = g .L·Layout .row in (
       t .reachable,
       run-more _ _ _ (c .args .pins .now) (c .loop-p .p-index) _ (c .loop-p-test .taken) (i .1) (t .after),
       t .lender ∙ i .2,

@@ -17,7 +17,7 @@ Inv-loop-p g l =
     let e = l .entry .self in
     (row * d .control .sheet .rows ≤ length (now (d .cells)))
     × (cell-meaning row words (now (d .cells)) (state-of (d .control)) (line (d .words))
-      ≡ run (cell-meaning row words (now (e .cells)) (state-of (e .control)) (line (e .words))) (take (l .p-index) (l .pins)))
+    ≡ run (cell-meaning row words (now (e .cells)) (state-of (e .control)) (line (e .words))) (take (l .p-index) (l .pins)))
     × (name (d .cells) ≡ name (e .cells))
     × (drop (row * e .control .sheet .rows) (now (d .cells)) ≡ drop (row * e .control .sheet .rows) (now (e .cells)))
     × (length (now (d .cells)) ≡ length (now (e .cells)))

@@ -13,7 +13,7 @@ pub returns-in-Err : need.returns-in-Err
 returns-in-Err g c =
     let self = c .args .self .now in
     let w = held (g .L·Layout .row) (g .L·Layout .words) (g .L·Layout·met .some) (now (self .cells)) (state-of (self .control)) (state-of (c .clock .last .self)) (line (self .words)) (c .args .pins) (c .in-Err .field-0)
-        (c .pre) (c .clock .ensures .after) (c .in-Err .ensures tt .answer) in
+    (c .pre) (c .clock .ensures .after) (c .in-Err .ensures tt .answer) in
     record { reachable = w .0; after = w .1; answer = w .2; lender = refl; rest = refl; length = refl; sheet = sheet-on (state-of (self .control)) _ (c .args .pins) (c .clock .ensures .after) }
 
 pub returns-in-Ok : need.returns-in-Ok
@@ -24,12 +24,12 @@ returns-in-Ok g c =
     let memory = now (self .cells) in
     let memory′ = c .perform-taken .last .cells in
     let w = went (g .L·Layout .row) words (g .L·Layout·met .some) memory memory′
-        (state-of (self .control)) (state-of (c .clock .last .self)) (line (self .words)) (line (c .push .last .self)) (c .args .pins) (c .in-Ok .field-0)
-        (c .front .result) (c .lane-bits .result)
-        (c .pre) (c .clock .ensures .after) (c .in-Ok .ensures tt .answer) (c .perform-taken .ensures .length)
-        (subst (λ (n : ℕ). words n memory′ ≡ done work (words n memory)) (c .rows-rows .ensures) (c .perform-taken .ensures .words))
-        (c .push .ensures ∙ ap (passed (line (self .words))) (c .perform-taken .ensures .taken ∙ ap (λ (n : ℕ). taken work (words n memory)) (c .rows-rows .ensures)))
-        (c .front .ensures 0) (c .lane-bits .ensures) in
+    (state-of (self .control)) (state-of (c .clock .last .self)) (line (self .words)) (line (c .push .last .self)) (c .args .pins) (c .in-Ok .field-0)
+    (c .front .result) (c .lane-bits .result)
+    (c .pre) (c .clock .ensures .after) (c .in-Ok .ensures tt .answer) (c .perform-taken .ensures .length)
+    (subst (λ (n : ℕ). words n memory′ ≡ done work (words n memory)) (c .rows-rows .ensures) (c .perform-taken .ensures .words))
+    (c .push .ensures ∙ ap (passed (line (self .words))) (c .perform-taken .ensures .taken ∙ ap (λ (n : ℕ). taken work (words n memory)) (c .rows-rows .ensures)))
+    (c .front .ensures 0) (c .lane-bits .ensures) in
     record {
       reachable = w .0;
       after = w .1;

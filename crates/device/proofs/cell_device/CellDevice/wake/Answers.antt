@@ -11,6 +11,6 @@ pub returns : need.returns
 returns g c =
     let self = c .args .self .now in
     let w = woken (g .L·Layout .row) (g .L·Layout .words) (g .L·Layout·met .some) (now (self .cells)) (state-of (self .control)) (state-of (c .switch-on .last .self)) (line (self .words)) (line (c .new-self .result))
-        (c .fitting-sheet-sheet .result) (c .fitting-sheet-sheet .ensures) (c .switch-on .ensures)
-        (c .new-self .ensures ∙ ap (λ (k : ℕ). replicate k 0) (c .of-latency .ensures)) in
+    (c .fitting-sheet-sheet .result) (c .fitting-sheet-sheet .ensures) (c .switch-on .ensures)
+    (c .new-self .ensures ∙ ap (λ (k : ℕ). replicate k 0) (c .of-latency .ensures)) in
     record { reachable = w .0; after = w .1; lender = refl; memory = refl }
