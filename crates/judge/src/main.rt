@@ -7,7 +7,8 @@ use std::env;
 use std::error::AnyError;
 use std::io::Write;
 
-const HELP: &str = "judge: reads a pin trace on standard input and writes the verdict on standard output.
+const HELP: &str =
+    "judge: reads a pin trace on standard input and writes the verdict on standard output.
 
 The trace runs on a device of at most 32 rows, just switched on, its cells all zero. For each
 clock at which the device drives a lane there is a line: the clock, the lanes and the word, both
