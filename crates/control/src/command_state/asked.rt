@@ -1,6 +1,9 @@
 ghost use mathlib.Core.Path.{_≡_};
+ghost use Rattle.rules.specs.State.{at};
 ghost use Rattle.control.specs.View.{state-of};
 use super::Control;
+use rules::Bank;
+use rules::BankName;
 use rules::Fault;
 use sheet::Sheet;
 
@@ -23,5 +26,11 @@ impl Control {
         ensures { λ r. ⌜ r ≡ state-of (now (self .entry)) .fault ⌝ }
     {
         self.fault
+    }
+
+    pub fn bank(&self, name: BankName) -> Bank
+        ensures { λ r. ⌜ r ≡ at (state-of (now (self .entry)) .banks) name ⌝ }
+    {
+        self.table.get(name)
     }
 }

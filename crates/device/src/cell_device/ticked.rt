@@ -4,6 +4,7 @@ ghost use lib.ListN.{length, drop};
 ghost use denote.Ref.{now, name};
 ghost use Rattle.sheet.specs.Lowered.{lowered};
 ghost use Rattle.rules.specs.Cells.{done, taken};
+ghost use Rattle.rules.specs.State.{at};
 ghost use Rattle.rules.specs.Meaning.{step, out, switch-on, run};
 ghost use Rattle.lines.specs.Line.{line};
 ghost use Rattle.beats.specs.Inside.{Inside};
@@ -15,7 +16,9 @@ use cells::Layout;
 use control::Moved;
 use lines::Delay;
 use lines::Depth;
+use rules::BankName;
 use rules::Pins;
+use rules::Row;
 use rules::Work;
 use sheet::Sheet;
 
@@ -59,6 +62,13 @@ impl<L: Layout> CellDevice<'_, L> {
     {
         let rows = L::fitting(self.cells, self.control.rows() as usize);
         self.control.sheet().lowered(rows as u32)
+    }
+
+    // A bank's row, if one is open.
+    pub fn row(&self, bank: BankName) -> Row
+        ensures { λ r. ⌜ r ≡ at (state-of (now (self .entry) .control) .banks) bank .row ⌝ }
+    {
+        self.control.bank(bank).row
     }
 
     // Switch-on; the memory stays as it is.

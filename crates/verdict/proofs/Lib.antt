@@ -1,0 +1,13 @@
+pub mod Joins
+pub mod Widths
+pub mod Turns
+pub mod Pages
+pub mod Memory
+pub mod Exact
+pub mod Refused
+pub mod Cased
+pub mod Blank
+pub mod Judgements
+pub mod Plainly
+pub mod Lasts
+pub mod Verdicts
