@@ -1,0 +1,12 @@
+pub mod Line
+pub mod Ledger
+pub mod Fit
+pub mod After
+pub mod Obeyed
+pub mod Stretch
+pub mod Reading
+pub mod Writing
+pub mod Rows
+pub mod Spread
+pub mod Waking
+pub mod Budget

@@ -1,0 +1,49 @@
+-- What a driver does at rest and in an open row, each as one stretch of clocks.
+use Prim.Native.Nat.{ℕ, _+_}
+use mathlib.Core.Path.{_≡_}
+use mathlib.Core.List.{List, [], _∷_}
+use lib.ListN.{length, replicate}
+use Rattle.std.specs.declared.option.Option.the-variants.{None}
+use Rattle.sheet.specs.declared.sheet.Sheet.{Sheet}
+use Rattle.rules.specs.declared.pins.Pins.{Pins}
+use Rattle.rules.specs.declared.pins.BankName.{BankName}
+use Rattle.rules.specs.declared.pins.Command.{Command}
+use Rattle.rules.specs.Meaning.{Meaning, step, run}
+use Rattle.rules.specs.Cases.{nop}
+use Rattle.schedule.specs.declared.ledger.Ledger.{Ledger}
+use Rattle.schedule.specs.Line.{silent}
+use Rattle.schedule.specs.Ledger.{next, Timely}
+use Rattle.schedule.specs.Fit.{Fit}
+use Rattle.schedule.specs.After.{after, address, stored, asked}
+use Rattle.schedule.specs.Obeyed.{Brings}
+use Rattle.schedule.specs.Stretch.{Rests, Went, at-clock, span, steps-from}
+use Rattle.schedule.specs.Reading.{Readable, reading-pins}
+use Rattle.schedule.specs.Writing.{all-written, wrote-at, Writable, writing-pins}
+
+-- a fitting command that reads nothing takes a clock
+abbrev pub One-goes : Type 0
+One-goes = (s : Sheet) (m : Meaning) (d : Ledger) (p : Pins) (c : Command) → Rests s m d → Timely d (next d) → Fit s (silent (s .cl)) d c → Brings p c
+    → asked s d c (m .cells) ≡ None → Went s m (step m p) d (after s (p .dq) c d) 1 [] (stored s d (p .dq) c (m .cells))
+
+-- k quiet clocks
+abbrev pub All-wait : Type 0
+All-wait = (k : ℕ) (s : Sheet) (m : Meaning) (d : Ledger) → Rests s m d → Timely d (d .clock + k)
+    → Went s m (run m (replicate k nop)) d (at-clock (d .clock + k) d) k [] (m .cells)
+
+-- k words read in an open row take k + cl clocks, and just those words are driven
+abbrev pub Row-read : Type 0
+Row-read = (s : Sheet) (m : Meaning) (d : Ledger) (b : BankName) (c k : ℕ) → Rests s m d → Readable s d b c k
+    → Went s m (run m (steps-from (reading-pins b c k) 0 (k + s .cl))) d (at-clock (d .clock + (k + s .cl)) d) (k + s .cl)
+        (span (m .cells) (address s d b c) k) (m .cells)
+
+-- words written in an open row take a clock each
+abbrev pub Row-written : Type 0
+Row-written = (ws : List ℕ) (s : Sheet) (m : Meaning) (d : Ledger) (b : BankName) (c w : ℕ) → Rests s m d → Writable s d b c (w ∷ ws)
+    → Went s m (run m (writing-pins b c (w ∷ ws))) d (wrote-at (d .clock + length (w ∷ ws)) b d) (length (w ∷ ws)) []
+        (all-written (address s d b c) (d .mask) (w ∷ ws) (m .cells))
+
+pub record Rows-served : Type 0 where
+  pub one : One-goes
+  pub quiet : All-wait
+  pub read : Row-read
+  pub written : Row-written

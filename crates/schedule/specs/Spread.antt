@@ -1,0 +1,36 @@
+-- Words in an interval of addresses: what a row of writes and a row of block writes come to.
+use Prim.Native.Nat.{ℕ, _+_, _-_, _*_, _%_, _^_, _≤_, _<_}
+use mathlib.Core.Path.{_≡_}
+use mathlib.Core.Bool.{Bool, cond, _&&_}
+use mathlib.Core.List.{List, _++_}
+use lib.Dec.{leb, ltb}
+use lib.ListN.{length, getD}
+use Rattle.sheet.specs.declared.sheet.Sheet.{Sheet}
+use Rattle.rules.specs.declared.pins.BankName.{BankName}
+use Rattle.rules.specs.declared.pins.Access.the-variants.{Block}
+use Rattle.rules.specs.declared.pins.Command.the-variants.{Column}
+use Rattle.rules.specs.Words.{put}
+use Rattle.schedule.specs.declared.ledger.Ledger.{Ledger}
+use Rattle.schedule.specs.After.{address, stored}
+use Rattle.schedule.specs.Writing.{all-written}
+
+-- a is one of the n addresses from x on
+abbrev pub among : ℕ → ℕ → ℕ → Bool
+among x n a = leb x a && ltb a (x + n)
+
+-- the n words from x on take the bits of the mask from new
+abbrev pub spread : (ℕ → ℕ) → ℕ → ℕ → ℕ → (ℕ → ℕ) → ℕ → ℕ
+spread f x n mask new = λ a. cond (among x n a) (put mask (new (a - x)) (f a)) (f a)
+
+-- the columns from lo up to hi of a block, on all four lanes
+abbrev pub columns : ℕ → ℕ → ℕ
+columns lo hi = (2 ^ hi - 2 ^ lo) * 0x01010101
+
+pub record Spreads : Type 0 where
+  -- words written one by one, and in two rows as in one
+  pub written : (ws : List ℕ) (f : ℕ → ℕ) (x mask : ℕ) → all-written x mask ws f ≡ spread f x (length ws) mask (λ j. getD ws j 0)
+  pub in-two : (us vs : List ℕ) (f : ℕ → ℕ) (x mask : ℕ) → all-written x mask (us ++ vs) f ≡ all-written (x + length us) mask vs (all-written x mask us f)
+  -- a block write fills the chosen columns, and one fill goes on where another ended
+  pub block : (s : Sheet) (d : Ledger) (b : BankName) (a8 : Bool) (c lo hi : ℕ) (f : ℕ → ℕ) → c % 8 ≡ 0 → lo ≤ hi → hi ≤ 8 → d .mask < 2 ^ 32
+      → stored s d (columns lo hi) (Column Block b a8 c) f ≡ spread f (address s d b c + lo) (hi - lo) (d .mask) (λ _. d .colour)
+  pub blocks : (f : ℕ → ℕ) (x n k mask colour : ℕ) → spread (spread f x n mask (λ _. colour)) (x + n) k mask (λ _. colour) ≡ spread f x (n + k) mask (λ _. colour)
