@@ -4,3 +4,12 @@ pub mod Small
 pub mod Allows
 pub mod Keeps
 pub mod Obeying
+pub mod Decodes
+pub mod Chains
+pub mod Readings
+pub mod Singles
+pub mod Halves
+pub mod Filling
+pub mod Writings
+pub mod Waking
+pub mod Budgeting

@@ -2,6 +2,10 @@
 mod laws;
 mod ledger;
 
+pub use laws::budgets_hold;
 pub use laws::commands_obeyed;
+pub use laws::device_wakes;
+pub use laws::rows_served;
+pub use laws::words_spread;
 pub use ledger::Ledger;
 pub use ledger::Track;
