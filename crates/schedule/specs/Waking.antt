@@ -1,5 +1,5 @@
 -- A device in power-up, under a driver that settles and primes it.
-use Prim.Native.Nat.{ℕ, _+_, _^_, _≤_, _<_}
+use Prim.Native.Nat.{ℕ, _+_, _*_, _^_, _≤_, _<_}
 use mathlib.Core.Path.{_≡_}
 use mathlib.Core.Bool.{true, false}
 use mathlib.Core.List.{List, [], _∷_}
@@ -12,7 +12,9 @@ use Rattle.rules.specs.declared.state.Bank.{Bank}
 use Rattle.rules.specs.declared.state.Length.the-variants.{One}
 use Rattle.rules.specs.declared.state.Steps.{Steps}
 use Rattle.rules.specs.State.{Time}
-use Rattle.rules.specs.Meaning.{Meaning, switch-on}
+use Rattle.rules.specs.declared.pins.Pins.{Pins}
+use Rattle.rules.specs.Meaning.{Meaning, step, out, switch-on}
+use Rattle.rules.specs.Cases.{nop, pre-both, lmr, ref}
 use Rattle.schedule.specs.declared.ledger.Ledger.{Ledger}
 use Rattle.schedule.specs.declared.ledger.Track.{Track}
 use Rattle.schedule.specs.Ledger.{period}
@@ -82,15 +84,64 @@ primed s c t = record {
   b = shut-track c;
 }
 
+-- the device as priming leaves it: PRE at c, LMR at l, the second REF at t
+abbrev pub awake : Sheet → (ℕ → ℕ) → ℕ → ℕ → ℕ → Meaning
+awake s f c l t = record {
+  state = record {
+    sheet = s;
+    clock = t;
+    banks = record { a = shut-bank (Some c); b = shut-bank (Some c) };
+    registers = record { mode = record { length = One; interleaved = false }; mask = 0; colour = 0 };
+    burst = None;
+    reads = replicate (s .cl) false;
+    dqms = 0 ∷ (0 ∷ []);
+    steps = record { closed = true; loaded = true; refreshes = 2 };
+    marks = replicate (s .n) t;
+    past = record { refreshed = Some t; loaded = Some l; blocked = None };
+    drove = 0;
+    fault = None;
+  };
+  words = replicate (s .cl) 0;
+  cells = f;
+}
+
+-- a clock with the pins p leads from m to n, and drives nothing
+pub record Passes (m : Meaning) (p : Pins) (n : Meaning) : Type 0 where
+  pub leads : step m p ≡ n
+  pub silent : out m p ≡ (0, 0)
+
+-- the same at another clock
+abbrev pub waking-at : Waking → ℕ → Waking
+waking-at w t = record { clock = t; steps = w .steps; closed = w .closed; loaded = w .loaded; refreshed = w .refreshed }
+
+-- the mode of bursts of length 1 at latency cl
+abbrev pub mode-code : Sheet → ℕ
+mode-code s = s .cl * 16
+
+-- Each clock of settling and priming.
+pub record Wakes-by-step : Type 0 where
+  pub on : (s : Sheet) (m : Meaning) → m .state .sheet ≡ s → switch-on m ≡ wake s (switched 0) (m .cells)
+  pub quiet : (s : Sheet) (f : ℕ → ℕ) (w : Waking) → w .clock + 1 < 2 ^ 62 → Passes (wake s w f) nop (wake s (waking-at w (w .clock + 1)) f)
+  pub shuts : (s : Sheet) (f : ℕ → ℕ) (t : ℕ) → s .pup ≤ t → t + 1 < 2 ^ 62
+      → Passes (wake s (switched t) f) pre-both (wake s (shut (t + 1) (t + 1)) f)
+  pub tunes : (s : Sheet) (f : ℕ → ℕ) (c t : ℕ) → s .pup ≤ t → c + s .rp ≤ t + 1 → t + 1 < 2 ^ 62
+      → Passes (wake s (shut c t) f) (lmr (mode-code s)) (wake s (tuned c (t + 1) (t + 1)) f)
+  pub first : (s : Sheet) (f : ℕ → ℕ) (c l t : ℕ) → s .pup ≤ t → c + s .rp ≤ t + 1 → l + 2 ≤ t + 1 → t + 1 < 2 ^ 62
+      → Passes (wake s (tuned c l t) f) ref (wake s (once c l (t + 1) (t + 1)) f)
+  pub second : (s : Sheet) (f : ℕ → ℕ) (c l r t : ℕ) → s .pup ≤ t → c + s .rp ≤ t + 1 → l + 2 ≤ t + 1 → r + s .rc ≤ t + 1 → t + 1 < 2 ^ 62
+      → Passes (wake s (once c l r t) f) ref (awake s f c l (t + 1))
+  pub rests : (s : Sheet) (f : ℕ → ℕ) (c l t : ℕ) → l + 2 ≤ t + s .rc → ((x : ℕ) → f x < 2 ^ 32) → Rests s (awake s f c l t) (primed s c t)
+
 -- From any state, switched on, pup quiet clocks and rp + rc + 3 more leave a device at rest, its cells as they were, and
 -- drive nothing.
-pub record Woken (s : Sheet) (m : Meaning) : Type 0 where
+pub record Woken (most : ℕ) (s : Sheet) (m : Meaning) : Type 0 where
   pub settled : Stretch (switch-on m) (wake s (switched (s .pup)) (m .cells)) (s .pup) []
   pub end : Meaning
   pub rests : Rests s end (primed s (s .pup + 1) (s .pup + (s .rp + s .rc + 3)))
   pub cells : end .cells ≡ m .cells
   pub stretch : Stretch (wake s (switched (s .pup)) (m .cells)) end (s .rp + s .rc + 3) []
-  pub soon : s .rp + s .rc + 3 ≤ 700
+  pub soon : s .rp + s .rc + 3 ≤ most
 
-abbrev pub Wakes : Type 0
-Wakes = (s : Sheet) (m : Meaning) → m .state .sheet ≡ s → ((x : ℕ) → m .cells x < 2 ^ 32) → Woken s m
+-- priming takes at most so many clocks
+abbrev pub Wakes : ℕ → Type 0
+Wakes most = (s : Sheet) (m : Meaning) → m .state .sheet ≡ s → ((x : ℕ) → m .cells x < 2 ^ 32) → Woken most s m

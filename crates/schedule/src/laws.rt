@@ -3,7 +3,7 @@ ghost use Rattle.schedule.specs.Budget.{Budgets};
 ghost use Rattle.schedule.specs.Obeyed.{Obeys};
 ghost use Rattle.schedule.specs.Rows.{Rows-served};
 ghost use Rattle.schedule.specs.Spread.{Spreads};
-ghost use Rattle.schedule.specs.Waking.{Wakes};
+ghost use Rattle.schedule.specs.Waking.{Wakes, Wakes-by-step};
 
 // A command that fits the ledger is no fault, and the ledger, the cells and the bus are as told.
 pub fn commands_obeyed() -> u8
@@ -26,9 +26,10 @@ pub fn words_spread() -> u8
     0
 }
 
-// From any state, switched on, settled and primed, a device is at rest.
+// From any state, switched on, settled and primed in at most 700 clocks, a device is at rest.
 pub fn device_wakes() -> u8
-    ensures { λ _. ⌜ Wakes ⌝ }
+    ensures whole { λ _. ⌜ Wakes 700 ⌝ }
+    ensures steps { λ _. ⌜ Wakes-by-step ⌝ }
 {
     0
 }

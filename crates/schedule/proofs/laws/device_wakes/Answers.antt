@@ -1,5 +1,6 @@
-use Rattle.schedule.proofs.Waking.{wakes}
+use native.Mathlib.Omega.{arith}
+use Rattle.schedule.proofs.Waking.{wakes, by-step}
 use Rattle.schedule.proofs.laws.device_wakes.Needs as need
 
 pub returns : need.returns
-returns c = wakes
+returns c = record { whole = wakes 700 (omega arith); steps = by-step }
