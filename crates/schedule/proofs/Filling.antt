@@ -7,7 +7,7 @@ use lib.Dec.{ltb, leb, eqb}
 use lib.Bits.{bitAnd, and-zero-l, and-zero-r}
 use lib.ListN.{length, getD}
 use native.Mathlib.Omega.{arith}
-use native.Mathlib.Nat.{add-zero}
+use native.Mathlib.Nat.{add-zero, zero-add}
 use borrow.Author.Tests.{lt-ltb, le-ltb, le-leb, lt-leb, eq-eqb, ne-eqb, eqb-true, eqb-false, ltb-true, ltb-false}
 use Rattle.sheet.specs.declared.sheet.Sheet.{Sheet}
 use Rattle.rules.specs.declared.pins.BankName.{BankName}
@@ -18,6 +18,7 @@ use Rattle.rules.specs.Cells.{written}
 use Rattle.rules.proofs.Below.{every, every-one}
 use Rattle.schedule.specs.declared.ledger.Ledger.{Ledger}
 use Rattle.schedule.specs.After.{address, stored}
+use Rattle.schedule.specs.Stretch.{span}
 use Rattle.schedule.specs.Writing.{all-written}
 use Rattle.schedule.specs.Spread.{among, spread, columns, Spreads}
 use Rattle.schedule.proofs.Small.{whole}
@@ -45,14 +46,18 @@ where-is a x = go (eqb a x) (ltb a x) refl refl
     go false true e f = before (ltb-true a x f)
     go false false e f = let ne : a ≡ x → ⊥ = eqb-false a x e in let le : x ≤ a = ltb-false a x f in behind (omega arith)
 
--- words written one by one
-pub written-is : (ws : List ℕ) (f : ℕ → ℕ) (x mask a : ℕ) → all-written x mask ws f a ≡ spread f x (length ws) mask (λ j. getD ws j 0) a
-written-is [] f x mask a = go (where-is a x)
+-- no words
+pub spread-none : (f : ℕ → ℕ) (x mask : ℕ) (new : ℕ → ℕ) (a : ℕ) → spread f x 0 mask new a ≡ f a
+spread-none f x mask new a = go (where-is a x)
   where
-    go : Where a x → f a ≡ spread f x 0 mask (λ j. getD [] j 0) a
+    go : Where a x → spread f x 0 mask new a ≡ f a
     go (before h) = rw (among-before x 0 a h) refl
     go (here h) = rw (among-after x 0 a (omega arith)) refl
     go (behind h) = rw (among-after x 0 a (omega arith)) refl
+
+-- words written one by one
+pub written-is : (ws : List ℕ) (f : ℕ → ℕ) (x mask a : ℕ) → all-written x mask ws f a ≡ spread f x (length ws) mask (λ j. getD ws j 0) a
+written-is [] f x mask a = sym (spread-none f x mask (λ j. getD [] j 0) a)
 written-is (w ∷ ws) f x mask a = written-is ws (written x mask w f) (suc x) mask a ∙ go (where-is a x)
   where
     go : Where a x → spread (written x mask w f) (suc x) (length ws) mask (λ j. getD ws j 0) a ≡ spread f x (suc (length ws)) mask (λ j. getD (w ∷ ws) j 0) a
@@ -73,26 +78,41 @@ written-append (u ∷ us) vs f x mask =
     let e : suc x + length us ≡ x + suc (length us) = omega arith in
     written-append us vs (written x mask u f) (suc x) mask ∙ ap (λ y. all-written y mask vs (all-written (suc x) mask us (written x mask u f))) e
 
--- a fill goes on where another ended
-pub filled-more : (f : ℕ → ℕ) (x n k mask colour a : ℕ)
-    → spread (spread f x n mask (λ _. colour)) (x + n) k mask (λ _. colour) a ≡ spread f x (n + k) mask (λ _. colour) a
-filled-more f x n k mask colour a = go (where-is a x) (where-is a (x + n)) (where-is a (x + n + k))
-  where
-    go : Where a x → Where a (x + n) → Where a (x + n + k) → spread (spread f x n mask (λ _. colour)) (x + n) k mask (λ _. colour) a ≡ spread f x (n + k) mask (λ _. colour) a
-    go (before h) q r = rw (among-before (x + n) k a (omega arith), among-before x n a h, among-before x (n + k) a h) refl
-    go (here h) (before q) r = rw (among-before (x + n) k a q, among-in x n a (omega arith) q, among-in x (n + k) a (omega arith) (omega arith)) refl
-    go (here h) (here q) (before r) = rw (among-in (x + n) k a (omega arith) r, among-after x n a (omega arith), among-in x (n + k) a (omega arith) (omega arith)) refl
-    go (here h) (here q) (here r) = rw (among-after (x + n) k a (omega arith), among-after x n a (omega arith), among-after x (n + k) a (omega arith)) refl
-    go (here h) (here q) (behind r) = rw (among-after (x + n) k a (omega arith), among-after x n a (omega arith), among-after x (n + k) a (omega arith)) refl
-    go (here h) (behind q) r = absurd (omega arith)
-    go (behind h) (before q) r = rw (among-before (x + n) k a q, among-in x n a (omega arith) q, among-in x (n + k) a (omega arith) (omega arith)) refl
-    go (behind h) (here q) (before r) = rw (among-in (x + n) k a (omega arith) r, among-after x n a (omega arith), among-in x (n + k) a (omega arith) (omega arith)) refl
-    go (behind h) (here q) (here r) = rw (among-after (x + n) k a (omega arith), among-after x n a (omega arith), among-after x (n + k) a (omega arith)) refl
-    go (behind h) (here q) (behind r) = rw (among-after (x + n) k a (omega arith), among-after x n a (omega arith), among-after x (n + k) a (omega arith)) refl
-    go (behind h) (behind q) (before r) = rw (among-in (x + n) k a (omega arith) r, among-after x n a (omega arith), among-in x (n + k) a (omega arith) (omega arith)) refl
-    go (behind h) (behind q) (here r) = rw (among-after (x + n) k a (omega arith), among-after x n a (omega arith), among-after x (n + k) a (omega arith)) refl
-    go (behind h) (behind q) (behind r) = rw (among-after (x + n) k a (omega arith), among-after x n a (omega arith), among-after x (n + k) a (omega arith)) refl
+-- the four places of an address beside two intervals, one behind the other
+data Beside (a x n k : ℕ) : Type 0 where
+  under : a < x → Beside a x n k
+  first : x ≤ a → a < x + n → Beside a x n k
+  second : x + n ≤ a → a < x + n + k → Beside a x n k
+  over : x + n + k ≤ a → Beside a x n k
 
+beside : (a x n k : ℕ) → Beside a x n k
+beside a x n k = go (ltb a x) (ltb a (x + n)) (ltb a (x + n + k)) refl refl refl
+  where
+    go : (p q r : Bool) → ltb a x ≡ p → ltb a (x + n) ≡ q → ltb a (x + n + k) ≡ r → Beside a x n k
+    go true q r e f g = under (ltb-true a x e)
+    go false true r e f g = first (ltb-false a x e) (ltb-true a (x + n) f)
+    go false false true e f g = second (ltb-false a (x + n) f) (ltb-true a (x + n + k) g)
+    go false false false e f g = over (ltb-false a (x + n + k) g)
+
+-- more words behind others
+pub spread-more : (f : ℕ → ℕ) (x n k mask : ℕ) (new : ℕ → ℕ) (a : ℕ)
+    → spread (spread f x n mask new) (x + n) k mask (λ j. new (n + j)) a ≡ spread f x (n + k) mask new a
+spread-more f x n k mask new a = go (beside a x n k)
+  where
+    go : Beside a x n k → spread (spread f x n mask new) (x + n) k mask (λ j. new (n + j)) a ≡ spread f x (n + k) mask new a
+    go (under h) = rw (among-before (x + n) k a (omega arith), among-before x n a h, among-before x (n + k) a h) refl
+    go (first h q) = rw (among-before (x + n) k a q, among-in x n a h q, among-in x (n + k) a h (omega arith)) refl
+    go (second h q) =
+        let e : n + (a - (x + n)) ≡ a - x = omega arith in
+        rw (among-in (x + n) k a h q, among-after x n a h, among-in x (n + k) a (omega arith) (omega arith), e) refl
+    go (over h) = rw (among-after (x + n) k a h, among-after x n a (omega arith), among-after x (n + k) a (omega arith)) refl
+
+pub span-append : (f : ℕ → ℕ) (a n k : ℕ) → span f a (n + k) ≡ span f a n ++ span f (a + n) k
+span-append f a zero k = (λ i. span f (sym (add-zero a) i) (zero-add k i))
+span-append f a (suc n) k =
+    let e : suc n + k ≡ suc (n + k) = omega arith in
+    let u : suc a + n ≡ a + suc n = omega arith in
+    ap (span f a) e ∙ ap {B = List ℕ} (λ ws. f a ∷ ws) (span-append f (suc a) n k ∙ ap (λ y. span f (suc a) n ++ span f y k) u)
 
 choice-test : ℕ → Bool
 choice-test n = eqb (wide (chosen (columns (n / 72) (n / 8 % 9)) (n % 8))) (cond (leb (n / 72) (n % 8) && ltb (n % 8) (n / 8 % 9)) 0xffffffff 0)
@@ -142,8 +162,10 @@ block-fills s d b a8 c lo hi f x e h q w = go (where-is (x / 8) (address s d b c
 
 pub spreads : Spreads
 spreads = record {
+  none = λ f x mask new i a. spread-none f x mask new a i;
+  more = λ f x n k mask new i a. spread-more f x n k mask new a i;
   written = λ ws f x mask i a. written-is ws f x mask a i;
   in-two = written-append;
   block = λ s d b a8 c lo hi f e h q w i x. block-fills s d b a8 c lo hi f x e h q w i;
-  blocks = λ f x n k mask colour i a. filled-more f x n k mask colour a i;
+  read-in-two = span-append;
 }

@@ -10,6 +10,8 @@ pub mod Readings
 pub mod Singles
 pub mod Halves
 pub mod Filling
+pub mod Blocks
 pub mod Writings
+pub mod Lying
 pub mod Waking
 pub mod Budgeting

@@ -12,7 +12,7 @@ use Rattle.rules.specs.Meaning.{Meaning, step, shown, out}
 use Rattle.rules.proofs.Ways.{step-moved, out-moved}
 use Rattle.schedule.specs.Ledger.{told, Steady}
 use Rattle.schedule.specs.After.{after, asked}
-use Rattle.schedule.specs.Obeyed.{Obeys}
+use Rattle.schedule.specs.Obeyed.{Obeys, Says}
 use Rattle.schedule.proofs.Lines.{driven-line}
 use Rattle.schedule.proofs.Allows.{fine}
 use Rattle.schedule.proofs.Keeps.{lowered, moved-as, keeps, cells-told}
@@ -36,3 +36,10 @@ obeys s line m d p c k t v f q =
       cells = ap (λ x. x .cells) u ∙ cells-told s line m d p c f (k .mask);
       drives = (λ i. out (k .as-told i) (e i)) ∙ (out-as n r c refl z (q .is-command) ∙ driven-line line);
     }
+
+pub says : Says
+says = record {
+  sound = λ s line m d k. ap (λ x. x .state .fault) (k .as-told);
+  sheet = λ s line m d k. ap (λ x. x .state .sheet) (k .as-told);
+  clock = λ s line m d k. ap (λ x. x .state .clock) (k .as-told);
+}

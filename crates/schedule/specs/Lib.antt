@@ -6,7 +6,8 @@ pub mod Obeyed
 pub mod Stretch
 pub mod Reading
 pub mod Writing
-pub mod Rows
 pub mod Spread
+pub mod Rows
+pub mod Places
 pub mod Waking
 pub mod Budget

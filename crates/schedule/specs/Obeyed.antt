@@ -28,6 +28,12 @@ pub record Obeyed (s : Sheet) (line : List (Option ℕ)) (m : Meaning) (d : Ledg
   pub cells : step m p .cells ≡ stored s d (p .dq) c (m .cells)
   pub drives : out m p ≡ driven (leaving None line)
 
+-- what a true ledger says at once: no fault, the sheet, and the count
+pub record Says : Type 0 where
+  pub sound : (s : Sheet) (line : List (Option ℕ)) (m : Meaning) (d : Ledger) → Steady s line m d → m .state .fault ≡ None
+  pub sheet : (s : Sheet) (line : List (Option ℕ)) (m : Meaning) (d : Ledger) → Steady s line m d → m .state .sheet ≡ s
+  pub clock : (s : Sheet) (line : List (Option ℕ)) (m : Meaning) (d : Ledger) → Steady s line m d → m .state .clock ≡ d .clock
+
 abbrev pub Obeys : Type 0
 Obeys = (s : Sheet) (line : List (Option ℕ)) (m : Meaning) (d : Ledger) (p : Pins) (c : Command)
     → Steady s line m d → Timely d (next d) → Kept-bus (leaving None line) d → Fit s line d c → Brings p c

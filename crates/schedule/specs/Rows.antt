@@ -1,5 +1,6 @@
 -- What a driver does at rest and in an open row, each as one stretch of clocks.
-use Prim.Native.Nat.{ℕ, _+_}
+use Prim.Native.Nat.{ℕ, _+_, _-_, _%_, _≤_, _<_}
+use mathlib.Core.Bool.{false}
 use mathlib.Core.Path.{_≡_}
 use mathlib.Core.List.{List, [], _∷_}
 use lib.ListN.{length, replicate}
@@ -7,18 +8,21 @@ use Rattle.std.specs.declared.option.Option.the-variants.{None}
 use Rattle.sheet.specs.declared.sheet.Sheet.{Sheet}
 use Rattle.rules.specs.declared.pins.Pins.{Pins}
 use Rattle.rules.specs.declared.pins.BankName.{BankName}
+use Rattle.rules.specs.declared.pins.Access.the-variants.{Block}
 use Rattle.rules.specs.declared.pins.Command.{Command}
+use Rattle.rules.specs.declared.pins.Command.the-variants.{Column}
 use Rattle.rules.specs.Meaning.{Meaning, step, run}
-use Rattle.rules.specs.Cases.{nop}
+use Rattle.rules.specs.Cases.{nop, bw}
 use Rattle.schedule.specs.declared.ledger.Ledger.{Ledger}
 use Rattle.schedule.specs.Line.{silent}
 use Rattle.schedule.specs.Ledger.{next, Timely}
-use Rattle.schedule.specs.Fit.{Fit}
+use Rattle.schedule.specs.Fit.{Reachable, Fit}
 use Rattle.schedule.specs.After.{after, address, stored, asked}
 use Rattle.schedule.specs.Obeyed.{Brings}
 use Rattle.schedule.specs.Stretch.{Rests, Went, at-clock, span, steps-from}
-use Rattle.schedule.specs.Reading.{Readable, reading-pins}
+use Rattle.schedule.specs.Reading.{at-bank, Readable, reading-pins}
 use Rattle.schedule.specs.Writing.{all-written, wrote-at, Writable, writing-pins}
+use Rattle.schedule.specs.Spread.{spread, columns}
 
 -- a fitting command that reads nothing takes a clock
 abbrev pub One-goes : Type 0
@@ -42,8 +46,17 @@ Row-written = (ws : List ℕ) (s : Sheet) (m : Meaning) (d : Ledger) (b : BankNa
     → Went s m (run m (writing-pins b c (w ∷ ws))) d (wrote-at (d .clock + length (w ∷ ws)) b d) (length (w ∷ ws)) []
         (all-written (address s d b c) (d .mask) (w ∷ ws) (m .cells))
 
+-- a block write of the columns from lo up to hi goes on with a fill of the n words from x on
+abbrev pub Block-filled : Type 0
+Block-filled = (s : Sheet) (m : Meaning) (d : Ledger) (b : BankName) (c lo hi : ℕ) (f : ℕ → ℕ) (x n : ℕ) → Rests s m d → Timely d (next d)
+    → Reachable s d b false → d .bus ≤ next d → c < 256 → c % 8 ≡ 0 → lo ≤ hi → hi ≤ 8
+    → m .cells ≡ spread f x n (d .mask) (λ _. d .colour) → address s d b c + lo ≡ x + n
+    → Went s m (step m (bw (at-bank b c) (columns lo hi))) d (after s (columns lo hi) (Column Block b false c) d) 1 []
+        (spread f x (n + (hi - lo)) (d .mask) (λ _. d .colour))
+
 pub record Rows-served : Type 0 where
   pub one : One-goes
   pub quiet : All-wait
   pub read : Row-read
   pub written : Row-written
+  pub filled : Block-filled

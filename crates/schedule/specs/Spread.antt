@@ -12,6 +12,7 @@ use Rattle.rules.specs.declared.pins.Command.the-variants.{Column}
 use Rattle.rules.specs.Words.{put}
 use Rattle.schedule.specs.declared.ledger.Ledger.{Ledger}
 use Rattle.schedule.specs.After.{address, stored}
+use Rattle.schedule.specs.Stretch.{span}
 use Rattle.schedule.specs.Writing.{all-written}
 
 -- a is one of the n addresses from x on
@@ -27,10 +28,14 @@ abbrev pub columns : ℕ → ℕ → ℕ
 columns lo hi = (2 ^ hi - 2 ^ lo) * 0x01010101
 
 pub record Spreads : Type 0 where
+  -- no words, and more words behind others
+  pub none : (f : ℕ → ℕ) (x mask : ℕ) (new : ℕ → ℕ) → spread f x 0 mask new ≡ f
+  pub more : (f : ℕ → ℕ) (x n k mask : ℕ) (new : ℕ → ℕ) → spread (spread f x n mask new) (x + n) k mask (λ j. new (n + j)) ≡ spread f x (n + k) mask new
   -- words written one by one, and in two rows as in one
   pub written : (ws : List ℕ) (f : ℕ → ℕ) (x mask : ℕ) → all-written x mask ws f ≡ spread f x (length ws) mask (λ j. getD ws j 0)
   pub in-two : (us vs : List ℕ) (f : ℕ → ℕ) (x mask : ℕ) → all-written x mask (us ++ vs) f ≡ all-written (x + length us) mask vs (all-written x mask us f)
-  -- a block write fills the chosen columns, and one fill goes on where another ended
+  -- a block write fills the chosen columns
   pub block : (s : Sheet) (d : Ledger) (b : BankName) (a8 : Bool) (c lo hi : ℕ) (f : ℕ → ℕ) → c % 8 ≡ 0 → lo ≤ hi → hi ≤ 8 → d .mask < 2 ^ 32
       → stored s d (columns lo hi) (Column Block b a8 c) f ≡ spread f (address s d b c + lo) (hi - lo) (d .mask) (λ _. d .colour)
-  pub blocks : (f : ℕ → ℕ) (x n k mask colour : ℕ) → spread (spread f x n mask (λ _. colour)) (x + n) k mask (λ _. colour) ≡ spread f x (n + k) mask (λ _. colour)
+  -- words read in two rows as in one
+  pub read-in-two : (f : ℕ → ℕ) (a n k : ℕ) → span f a (n + k) ≡ span f a n ++ span f (a + n) k

@@ -2,6 +2,7 @@
 mod laws;
 mod ledger;
 
+pub use laws::addresses_lie;
 pub use laws::budgets_hold;
 pub use laws::commands_obeyed;
 pub use laws::device_wakes;

@@ -1,5 +1,6 @@
-use Rattle.schedule.proofs.Budgeting.{budgets}
+use native.Mathlib.Omega.{arith}
+use Rattle.schedule.proofs.Budgeting.{budgets, keeps-current}
 use Rattle.schedule.proofs.laws.budgets_hold.Needs as need
 
 pub returns : need.returns
-returns c = budgets
+returns c = record { budgets = budgets 700 324 (omega arith) (omega arith); current = keeps-current }
