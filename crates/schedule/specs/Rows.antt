@@ -1,5 +1,5 @@
 -- What a driver does at rest and in an open row, each as one stretch of clocks.
-use Prim.Native.Nat.{ℕ, _+_, _-_, _%_, _≤_, _<_}
+use Prim.Native.Nat.{ℕ, _+_, _-_, _*_, _%_, _≤_, _<_}
 use mathlib.Core.Bool.{false}
 use mathlib.Core.Path.{_≡_}
 use mathlib.Core.List.{List, [], _∷_}
@@ -21,8 +21,8 @@ use Rattle.schedule.specs.After.{after, address, stored, asked}
 use Rattle.schedule.specs.Obeyed.{Brings}
 use Rattle.schedule.specs.Stretch.{Rests, Went, at-clock, span, steps-from}
 use Rattle.schedule.specs.Reading.{at-bank, Readable, reading-pins}
-use Rattle.schedule.specs.Writing.{all-written, wrote-at, Writable, writing-pins}
-use Rattle.schedule.specs.Spread.{spread, columns}
+use Rattle.schedule.specs.Writing.{all-written, wrote-at, Writable, writing-pins, blocked-at, Fillable}
+use Rattle.schedule.specs.Spread.{spread, columns, filling-pins}
 
 -- a fitting command that reads nothing takes a clock
 abbrev pub One-goes : Type 0
@@ -54,9 +54,16 @@ Block-filled = (s : Sheet) (m : Meaning) (d : Ledger) (b : BankName) (c lo hi : 
     → Went s m (step m (bw (at-bank b c) (columns lo hi))) d (after s (columns lo hi) (Column Block b false c) d) 1 []
         (spread f x (n + (hi - lo)) (d .mask) (λ _. d .colour))
 
+-- n words filled by k + 1 block writes in an open row take k times bwc and one clock
+abbrev pub Row-filled : Type 0
+Row-filled = (k : ℕ) (s : Sheet) (m : Meaning) (d : Ledger) (b : BankName) (c n : ℕ) → Rests s m d → Fillable s d b c n k
+    → Went s m (run m (filling-pins b (s .bwc) k c n)) d (blocked-at (d .clock + (k * s .bwc + 1)) b d) (k * s .bwc + 1) []
+        (spread (m .cells) (address s d b c) n (d .mask) (λ _. d .colour))
+
 pub record Rows-served : Type 0 where
   pub one : One-goes
   pub quiet : All-wait
   pub read : Row-read
   pub written : Row-written
-  pub filled : Block-filled
+  pub block : Block-filled
+  pub filled : Row-filled

@@ -1,18 +1,21 @@
 -- Words in an interval of addresses: what a row of writes and a row of block writes come to.
-use Prim.Native.Nat.{ℕ, _+_, _-_, _*_, _%_, _^_, _≤_, _<_}
+use Prim.Native.Nat.{ℕ, zero, suc, _+_, _-_, _*_, _%_, _^_, _≤_, _<_}
 use mathlib.Core.Path.{_≡_}
 use mathlib.Core.Bool.{Bool, cond, _&&_}
-use mathlib.Core.List.{List, _++_}
+use mathlib.Core.List.{List, [], _∷_, _++_}
 use lib.Dec.{leb, ltb}
-use lib.ListN.{length, getD}
+use lib.ListN.{length, getD, replicate}
 use Rattle.sheet.specs.declared.sheet.Sheet.{Sheet}
+use Rattle.rules.specs.declared.pins.Pins.{Pins}
 use Rattle.rules.specs.declared.pins.BankName.{BankName}
 use Rattle.rules.specs.declared.pins.Access.the-variants.{Block}
 use Rattle.rules.specs.declared.pins.Command.the-variants.{Column}
 use Rattle.rules.specs.Words.{put}
+use Rattle.rules.specs.Cases.{nop, bw}
 use Rattle.schedule.specs.declared.ledger.Ledger.{Ledger}
 use Rattle.schedule.specs.After.{address, stored}
 use Rattle.schedule.specs.Stretch.{span}
+use Rattle.schedule.specs.Reading.{at-bank}
 use Rattle.schedule.specs.Writing.{all-written}
 
 -- a is one of the n addresses from x on
@@ -26,6 +29,12 @@ spread f x n mask new = λ a. cond (among x n a) (put mask (new (a - x)) (f a)) 
 -- the columns from lo up to hi of a block, on all four lanes
 abbrev pub columns : ℕ → ℕ → ℕ
 columns lo hi = (2 ^ hi - 2 ^ lo) * 0x01010101
+
+-- k + 1 block writes, w clocks apart, that fill n words from column c on
+abbrev pub filling-pins : BankName → ℕ → ℕ → ℕ → ℕ → List Pins
+filling-pins b w zero c n = bw (at-bank b (c - c % 8)) (columns (c % 8) (c % 8 + n)) ∷ []
+filling-pins b w (suc k) c n =
+    bw (at-bank b (c - c % 8)) (columns (c % 8) 8) ∷ (replicate (w - 1) nop ++ filling-pins b w k (c + (8 - c % 8)) (n - (8 - c % 8)))
 
 pub record Spreads : Type 0 where
   -- no words, and more words behind others

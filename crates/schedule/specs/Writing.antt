@@ -1,5 +1,5 @@
 -- Words written one after the other in an open row.
-use Prim.Native.Nat.{ℕ, suc, _+_, _^_, _≤_, _<_}
+use Prim.Native.Nat.{ℕ, suc, _+_, _*_, _%_, _^_, _≤_, _<_}
 use mathlib.Core.Path.{_≡_}
 use mathlib.Core.Bool.{true, cond}
 use mathlib.Core.List.{List, [], _∷_}
@@ -79,3 +79,29 @@ pub record Ready-to-write (s : Sheet) (d : Ledger) (b : BankName) (c k : ℕ) : 
   pub bus : d .bus ≤ next d
   pub known : d .clock + k ≤ track d b .written
   pub timely : Timely d (d .clock + k)
+
+-- a block of bank b was written at t, which is now
+abbrev pub blocked-at : ℕ → BankName → Ledger → Ledger
+blocked-at t b d = record {
+  clock = t;
+  due = d .due;
+  free = d .free;
+  bus = d .bus;
+  block = t;
+  mask = d .mask;
+  colour = d .colour;
+  a = cond (same b A) (written-track t (d .a)) (d .a);
+  b = cond (same b B) (written-track t (d .b)) (d .b);
+}
+
+-- n words from column c on can be filled by k + 1 block writes, the first at the next clock
+pub record Fillable (s : Sheet) (d : Ledger) (b : BankName) (c n k : ℕ) : Type 0 where
+  pub inside : c + n ≤ 256
+  pub least : 8 * k < c % 8 + n
+  pub most : c % 8 + n ≤ 8 * k + 8
+  pub row-open : is-some (track d b .row) ≡ true
+  pub free : d .free ≤ next d
+  pub rcd : track d b .opened + s .rcd ≤ next d
+  pub bwc : d .block + s .bwc ≤ next d
+  pub bus : d .bus ≤ next d
+  pub timely : Timely d (d .clock + (k * s .bwc + 1))
