@@ -150,8 +150,8 @@ module _ (s : Sheet) (line : List (Option ℕ)) (m : Meaning) (d : Ledger) (k : 
     count-end = ne-eqb (next d) (2 ^ 62) (omega (arith, t .counts));
     retention = marks-young (period s) (d .due) (s .ret) (next d) (m .state .marks) (k .paced) (a-round s (m .state .marks) (k .all-marks)) (t .fresh);
     row-time = or-both _ _
-      (young-over (d .a .row) _ (d .a .opened) (s .rasmax) (next d) (k .bank A .opened) (t .young-a) (s .«rasmax_range» .0))
-      (young-over (d .b .row) _ (d .b .opened) (s .rasmax) (next d) (k .bank B .opened) (t .young-b) (s .«rasmax_range» .0));
+        (young-over (d .a .row) _ (d .a .opened) (s .rasmax) (next d) (k .bank A .opened) (t .young-a) (s .«rasmax_range» .0))
+        (young-over (d .b .row) _ (d .b .opened) (s .rasmax) (next d) (k .bank B .opened) (t .young-b) (s .«rasmax_range» .0));
     power-up = and-false (not (quiet c));
     recovery = late-enough c f;
     operand = well-formed c f;

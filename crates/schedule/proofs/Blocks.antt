@@ -51,11 +51,11 @@ columns-below lo hi q = let e = power-small hi q in let p = one-le-pow lo 2 (ome
 pub fills : Block-filled
 fills s m d b c lo hi f x n r t u bus in-row even h q e a =
     let y = goes s m d (bw (at-bank b c) (columns lo hi)) (Column Block b false c) r t (u, record { bus = bus; nothing-leaves = leaving-silent (s .cl) })
-        (brings-bw b c (columns lo hi) in-row (columns-below lo hi q)) refl in
+    (brings-bw b c (columns lo hi) in-row (columns-below lo hi q)) refl in
     went-is _ _ y refl
-      ((λ i z. block-fills s d b false c lo hi (m .cells) z even h q (r .mask) i)
-      ∙ ((λ i. spread (e i) (a i) (hi - lo) (d .mask) (λ _. d .colour))
-      ∙ (λ i z. spread-more f x n (hi - lo) (d .mask) (λ _. d .colour) z i)))
+    ((λ i z. block-fills s d b false c lo hi (m .cells) z even h q (r .mask) i)
+    ∙ ((λ i. spread (e i) (a i) (hi - lo) (d .mask) (λ _. d .colour))
+    ∙ (λ i z. spread-more f x n (hi - lo) (d .mask) (λ _. d .colour) z i)))
 
 -- A whole row of blocks.
 
@@ -101,16 +101,16 @@ address-blocked s d B u v c = refl
 -- one block, from column c up to the place hi of its block
 fill-one : (s : Sheet) (m : Meaning) (d : Ledger) (b : BankName) (c n k hi : ℕ) → Rests s m d → Fillable s d b c n k → c % 8 ≤ hi → hi ≤ 8
     → Went s m (step m (bw (at-bank b (c - c % 8)) (columns (c % 8) hi))) d (blocked-at (next d) b d) 1 []
-        (spread (m .cells) (address s d b c) (hi - c % 8) (d .mask) (λ _. d .colour))
+    (spread (m .cells) (address s d b c) (hi - c % 8) (d .mask) (λ _. d .colour))
 fill-one s m d b c n k hi r q h l =
     let p = q .inside in
     let u = q .least in
     went-is _ _ (fills s m d b (c - c % 8) (c % 8) hi (m .cells) (address s d b c) 0 r
-        (timely-before d _ (next d) (omega arith) (q .timely))
-        (record { low = refl; row-open = q .row-open; free = q .free; rcd = q .rcd; bwc = q .bwc }) (q .bus)
-        (omega arith) (omega arith) h l
-        (sym (λ i a. spread-none (m .cells) (address s d b c) (d .mask) (λ _. d .colour) a i)) (omega arith))
-      refl (ap (λ y. spread (m .cells) (address s d b c) y (d .mask) (λ _. d .colour)) (zero-add (hi - c % 8)))
+    (timely-before d _ (next d) (omega arith) (q .timely))
+    (record { low = refl; row-open = q .row-open; free = q .free; rcd = q .rcd; bwc = q .bwc }) (q .bus)
+    (omega arith) (omega arith) h l
+    (sym (λ i a. spread-none (m .cells) (address s d b c) (d .mask) (λ _. d .colour) a i)) (omega arith))
+    refl (ap (λ y. spread (m .cells) (address s d b c) y (d .mask) (λ _. d .colour)) (zero-add (hi - c % 8)))
 
 pub fills-all : Row-filled
 fills-all zero s m d b c n r q =
@@ -119,8 +119,8 @@ fills-all zero s m d b c n r q =
     let e : c % 8 + n - c % 8 ≡ n = omega arith in
     let x = fill-one s m d b c n 0 (c % 8 + n) r q (omega arith) (omega arith) in
     subst (λ z. Went s m (step m (bw (at-bank b (c - c % 8)) (columns (c % 8) (c % 8 + n)))) d (blocked-at (d .clock + z) b d) z []
-        (spread (m .cells) (address s d b c) n (d .mask) (λ _. d .colour))) one
-      (went-is _ _ x refl (ap (λ y. spread (m .cells) (address s d b c) y (d .mask) (λ _. d .colour)) e))
+    (spread (m .cells) (address s d b c) n (d .mask) (λ _. d .colour))) one
+    (went-is _ _ x refl (ap (λ y. spread (m .cells) (address s d b c) y (d .mask) (λ _. d .colour)) e))
 fills-all (suc k) s m d b c n r q =
     let range = s .«bwc_range» in
     let least = q .least in
@@ -135,17 +135,17 @@ fills-all (suc k) s m d b c n r q =
     let m₃ : Meaning = run m₂ (filling-pins b (s .bwc) k (c + (8 - lo)) (n - (8 - lo))) in
     let x : Went s m m₁ d d₁ 1 [] (spread f a (8 - lo) (d .mask) (λ _. d .colour)) = fill-one s m d b c n (suc k) 8 r q (omega arith) (omega arith) in
     let y : Went s m₁ m₂ d₁ d₂ (s .bwc - 1) [] (m₁ .cells) =
-        waits (s .bwc - 1) s m₁ d₁ (x .rests) (timely-blocked d b (next d) (next d) _ (timely-before d _ (next d + (s .bwc - 1)) (omega arith) (q .timely))) in
+    waits (s .bwc - 1) s m₁ d₁ (x .rests) (timely-blocked d b (next d) (next d) _ (timely-before d _ (next d + (s .bwc - 1)) (omega arith) (q .timely))) in
     let z = fills-all k s m₂ d₂ b (c + (8 - lo)) (n - (8 - lo)) (y .rests) (fillable-next s d b c n k q) in
     let count : 1 + (s .bwc - 1 + (k * s .bwc + 1)) ≡ suc k * s .bwc + 1 = omega arith in
     let time : next d + (s .bwc - 1) + (k * s .bwc + 1) ≡ d .clock + (suc k * s .bwc + 1) = omega arith in
     let there : address s d₂ b (c + (8 - lo)) ≡ a + (8 - lo) = address-blocked s d b (next d) (next d + (s .bwc - 1)) (c + (8 - lo)) ∙ omega arith in
     let words : 8 - lo + (n - (8 - lo)) ≡ n = omega arith in
     let end : run m₁ (replicate (s .bwc - 1) nop ++ filling-pins b (s .bwc) k (c + (8 - lo)) (n - (8 - lo))) ≡ m₃ =
-        run-join m₁ (replicate (s .bwc - 1) nop) (filling-pins b (s .bwc) k (c + (8 - lo)) (n - (8 - lo))) in
+    run-join m₁ (replicate (s .bwc - 1) nop) (filling-pins b (s .bwc) k (c + (8 - lo)) (n - (8 - lo))) in
     went-means _ _
-      (went-is _ _ (went-then (suc k * s .bwc + 1) [] x (went-then (s .bwc - 1 + (k * s .bwc + 1)) [] y z refl refl) count refl)
-        (ap (λ t. blocked-at t b d₂) time ∙ blocked-twice d b (next d) (next d + (s .bwc - 1)) (d .clock + (suc k * s .bwc + 1)))
-        ((λ i. spread ((y .cells ∙ x .cells) i) (there i) (n - (8 - lo)) (d .mask) (λ _. d .colour))
-        ∙ (λ i v. spread-more f a (8 - lo) (n - (8 - lo)) (d .mask) (λ _. d .colour) v i)))
-      end (ap (λ v. spread f a v (d .mask) (λ _. d .colour)) words)
+    (went-is _ _ (went-then (suc k * s .bwc + 1) [] x (went-then (s .bwc - 1 + (k * s .bwc + 1)) [] y z refl refl) count refl)
+    (ap (λ t. blocked-at t b d₂) time ∙ blocked-twice d b (next d) (next d + (s .bwc - 1)) (d .clock + (suc k * s .bwc + 1)))
+    ((λ i. spread ((y .cells ∙ x .cells) i) (there i) (n - (8 - lo)) (d .mask) (λ _. d .colour))
+    ∙ (λ i v. spread-more f a (8 - lo) (n - (8 - lo)) (d .mask) (λ _. d .colour) v i)))
+    end (ap (λ v. spread f a v (d .mask) (λ _. d .colour)) words)

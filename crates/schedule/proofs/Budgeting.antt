@@ -199,15 +199,15 @@ current-waits s d t h q =
 current-reads : (s : Sheet) (d : Ledger) (n : ℕ) → Current s d → Current s (at-clock (d .clock + n) (with-bus (d .clock + n + 2) d))
 current-reads s d n q =
     current-to s d (at-clock (d .clock + n) (with-bus (d .clock + n + 2) d)) q (omega arith) refl refl (omega arith) refl
-      (refl, refl, omega (arith, q .written-a)) (refl, refl, omega (arith, q .written-b))
+    (refl, refl, omega (arith, q .written-a)) (refl, refl, omega (arith, q .written-b))
 
 current-writes : (s : Sheet) (d : Ledger) (n : ℕ) (b : BankName) → Current s d → Current s (at-clock (d .clock + n) (with-written (d .clock + n) b d))
 current-writes s d n A q =
     current-to s d (at-clock (d .clock + n) (with-written (d .clock + n) A d)) q (omega arith) refl refl (omega (arith, q .bus)) refl
-      (refl, refl, omega arith) (refl, refl, omega (arith, q .written-b))
+    (refl, refl, omega arith) (refl, refl, omega (arith, q .written-b))
 current-writes s d n B q =
     current-to s d (at-clock (d .clock + n) (with-written (d .clock + n) B d)) q (omega arith) refl refl (omega (arith, q .bus)) refl
-      (refl, refl, omega (arith, q .written-a)) (refl, refl, omega arith)
+    (refl, refl, omega (arith, q .written-a)) (refl, refl, omega arith)
 
 pub keeps-current : Keeps-current
 keeps-current = record { goes = current; waits = current-waits; reads = current-reads; writes = current-writes }

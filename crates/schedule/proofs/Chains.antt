@@ -34,11 +34,11 @@ stretch-then m m′ m″ a b us vs s t = record {
   long = simp length-append (omega (arith, s .long, t .long));
   leads = t .leads ∙ ap (λ w. run w (t .pins)) (s .leads) ∙ sym (run-join m (s .pins) (t .pins));
   words =
-    let here : heard (outs (run m (s .pins)) (t .pins)) ≡ vs = ap (λ w. heard (outs w (t .pins))) (sym (s .leads)) ∙ t .words in
-    ap heard (outs-join m (s .pins) (t .pins))
-    ∙ heard-append (outs m (s .pins)) (outs (run m (s .pins)) (t .pins))
-    ∙ ap (λ ws. ws ++ heard (outs (run m (s .pins)) (t .pins))) (s .words)
-    ∙ ap (λ ws. us ++ ws) here;
+      let here : heard (outs (run m (s .pins)) (t .pins)) ≡ vs = ap (λ w. heard (outs w (t .pins))) (sym (s .leads)) ∙ t .words in
+      ap heard (outs-join m (s .pins) (t .pins))
+      ∙ heard-append (outs m (s .pins)) (outs (run m (s .pins)) (t .pins))
+      ∙ ap (λ ws. ws ++ heard (outs (run m (s .pins)) (t .pins))) (s .words)
+      ∙ ap (λ ws. us ++ ws) here;
 }
 
 -- told otherwise

@@ -141,6 +141,7 @@ block-fills s d b a8 c lo hi f x e h q w = go (where-is (x / 8) (address s d b c
   where
     even : address s d b c % 8 ≡ 0
     even = omega arith
+
     out-of : (z : Bool) → (leb lo (x % 8) && ltb (x % 8) hi) ≡ z → eqb (x / 8) (address s d b c / 8) ≡ true
         → stored s d (columns lo hi) (Column Block b a8 c) f x ≡ cond z (put (d .mask) (d .colour) (f x)) (f x)
     out-of z u v = rw (v, choice lo hi (x % 8) (omega arith) q (omega arith), u) (at z)
@@ -148,6 +149,7 @@ block-fills s d b a8 c lo hi f x e h q w = go (where-is (x / 8) (address s d b c
         at : (z : Bool) → put (bitAnd (cond z 0xffffffff 0) (d .mask)) (d .colour) (f x) ≡ cond z (put (d .mask) (d .colour) (f x)) (f x)
         at true = ap (λ y. put y (d .colour) (f x)) (whole (d .mask) w)
         at false = ap (λ y. put y (d .colour) (f x)) (and-zero-l (d .mask)) ∙ put-none (d .colour) (f x)
+
     go : Where (x / 8) (address s d b c / 8) → Where (x % 8) lo → Where (x % 8) hi
         → stored s d (columns lo hi) (Column Block b a8 c) f x ≡ spread f (address s d b c + lo) (hi - lo) (d .mask) (λ _. d .colour) x
     go (before u) l r = rw (ne-eqb (x / 8) (address s d b c / 8) (omega arith), among-before (address s d b c + lo) (hi - lo) x (omega arith)) refl

@@ -56,10 +56,13 @@ half-on s m₀ m d f b c k j p r below h q u = go (ltb j (s .cl)) refl
   where
     x : Reading s d f b c k (suc j) (step m p) × (out m p ≡ driven (expected f (address s d b c) k (s .cl) j))
     x = speaks s d f b c k r j m p (ltb j k) refl h (q .reading) u
+
     one : suc j ≡ j + 1
     one = omega arith
+
     next : Reading s d f b c k (j + 1) (step m p)
     next = subst (λ y. Reading s d f b c k y (step m p)) one (x .0)
+
     go : (z : Bool) → ltb j (s .cl) ≡ z → Read-on s d f b c k j m₀ (step m p) (out m p)
     go true e =
         let i : j < s .cl = ltb-true j (s .cl) e in
@@ -69,7 +72,7 @@ half-on s m₀ m d f b c k j p r below h q u = go (ltb j (s .cl)) refl
           half = record {
             reading = next;
             stretch = stretch-is _ _ _ _ _ _ (stretch-then _ _ _ _ _ _ _ (q .stretch) (stretch-one m p (0, 0) o)) refl
-              (append-nil _ ∙ ap (span f (address s d b c)) n);
+                (append-nil _ ∙ ap (span f (address s d b c)) n);
           };
           word = λ w. absurd (omega arith);
         }
@@ -77,13 +80,13 @@ half-on s m₀ m d f b c k j p r below h q u = go (ltb j (s .cl)) refl
         let i : s .cl ≤ j = ltb-false j (s .cl) e in
         let v : ℕ = f (address s d b c + (j - s .cl)) in
         let o : out m p ≡ (15, v) =
-            x .1 ∙ (ap driven (expected-word f (address s d b c) k (s .cl) j i h) ∙ ap (λ y. (15, y)) (and-mask v 32 ∙ mod-eq-of-lt (below _))) in
+        x .1 ∙ (ap driven (expected-word f (address s d b c) k (s .cl) j i h) ∙ ap (λ y. (15, y)) (and-mask v 32 ∙ mod-eq-of-lt (below _))) in
         let n : suc (j - s .cl) ≡ (j + 1) - s .cl = omega arith in
         record {
           half = record {
             reading = next;
             stretch = stretch-is _ _ _ _ _ _ (stretch-then _ _ _ _ _ _ _ (q .stretch) (stretch-one m p (15, v) o)) refl
-              (span-more f (address s d b c) (j - s .cl) ∙ ap (span f (address s d b c)) n);
+                (span-more f (address s d b c) (j - s .cl) ∙ ap (span f (address s d b c)) n);
           };
           word = λ w. ap (λ y. y .1) o;
         }

@@ -120,8 +120,8 @@ module _ (s : Sheet) (d : Ledger) (f : ℕ → ℕ) (b : BankName) (c k : ℕ) (
       let o = obeyed-read j m p h q e in
       let x : ℕ = j + s .cl in
       let a : asked s (at-clock (d .clock + j) d) (Column Read b false (c + j)) (m .cells) ≡ w x =
-          (λ i. Some (q .cells i (address-at j i)))
-          ∙ (ap {B = Option ℕ} (λ y. Some (f (address s d b c + y))) (omega arith) ∙ sym (expected-word f (address s d b c) k (s .cl) x (omega arith) (omega arith))) in
+      (λ i. Some (q .cells i (address-at j i)))
+      ∙ (ap {B = Option ℕ} (λ y. Some (f (address s d b c + y))) (omega arith) ∙ sym (expected-word f (address s d b c) k (s .cl) x (omega arith) (omega arith))) in
       record { steady = moves j (step m p) _ a (o .steady); cells = o .cells ∙ q .cells }
 
   pub drains : (j : ℕ) (m : Meaning) (p : Pins) → k ≤ j → j < k + s .cl → Reading s d f b c k j m → Brings p Nop → Reading s d f b c k (suc j) (step m p)

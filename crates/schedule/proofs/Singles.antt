@@ -43,7 +43,7 @@ pub gives : (s : Sheet) (m m′ : Meaning) (d d′ : Ledger) (p : Pins) (c : Com
     → asked s d c (m .cells) ≡ None → m′ ≡ step m p → d′ ≡ after s (p .dq) c d → Went s m m′ d d′ 1 [] (stored s d (p .dq) c (m .cells))
 gives s m m′ d d′ p c r t f q e u v =
     subst (λ x. Went s m x d d′ 1 [] (stored s d (p .dq) c (m .cells))) (sym u)
-        (subst (λ x. Went s m (step m p) d x 1 [] (stored s d (p .dq) c (m .cells))) (sym v) (goes s m d p c r t f q e))
+    (subst (λ x. Went s m (step m p) d x 1 [] (stored s d (p .dq) c (m .cells))) (sym v) (goes s m d p c r t f q e))
 
 pub waits : All-wait
 waits zero s m d r t = record { rests = rw (add-zero (d .clock)) r; later = refl; cells = refl; stretch = stretch-none m }
@@ -53,4 +53,4 @@ waits (suc k) s m d r t =
     let y = waits k s (step m nop) (at-clock (next d) d) (x .rests) (timely-at d (next d) _ (rw e t)) in
     let z : Went s m (run m (replicate (suc k) nop)) d (at-clock (next d + k) d) (suc k) [] (step m nop .cells) = went-then (suc k) [] x y (omega arith) refl in
     subst (λ u. Went s m (run m (replicate (suc k) nop)) d (at-clock u d) (suc k) [] (m .cells)) e
-        (subst (λ f. Went s m (run m (replicate (suc k) nop)) d (at-clock (next d + k) d) (suc k) [] f) (x .cells) z)
+    (subst (λ f. Went s m (run m (replicate (suc k) nop)) d (at-clock (next d + k) d) (suc k) [] f) (x .cells) z)

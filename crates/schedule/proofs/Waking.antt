@@ -93,9 +93,18 @@ module _ (s : Sheet) (f : ℕ → ℕ) where
   pub quiet-one : (w : Waking) → w .clock + 1 < 2 ^ 62 → Passes (wake s w f) nop (wake s (waking-at w (w .clock + 1)) f)
   quiet-one w h = one s w f nop Nop _ refl
       (none-found (wake s w f .state) Nop (record {
-        count-end = counted _ h; retention = refl; row-time = refl; power-up = refl; recovery = refl; operand = refl; misplaced = refl; distance = refl; contention = refl }))
+        count-end = counted _ h;
+        retention = refl;
+        row-time = refl;
+        power-up = refl;
+        recovery = refl;
+        operand = refl;
+        misplaced = refl;
+        distance = refl;
+        contention = refl;
+      }))
       (λ i. lined (wake s (waking-at w (w .clock + 1)) f) (marks-still (ready (w .steps)) (replicate (s .n) (w .clock + 1)) i)
-        (lanes-of 0 (leaving-same (s .cl) false i)) (passed-same (s .cl) false i) (passed-same (s .cl) 0 i))
+      (lanes-of 0 (leaving-same (s .cl) false i)) (passed-same (s .cl) false i) (passed-same (s .cl) 0 i))
 
   pub quiets : (k : ℕ) (w : Waking) → w .clock + k < 2 ^ 62 → Stretch (wake s w f) (wake s (waking-at w (w .clock + k)) f) k []
   quiets zero w h = rw (add-zero (w .clock)) (stretch-none (wake s w f))
@@ -112,8 +121,16 @@ module _ (s : Sheet) (f : ℕ → ℕ) where
   pub shuts : (t : ℕ) → s .pup ≤ t → t + 1 < 2 ^ 62 → Passes (wake s (switched t) f) pre-both (wake s (shut (t + 1) (t + 1)) f)
   shuts t h q = one s (switched t) f pre-both (Precharge true A) _ refl
       (none-found (wake s (switched t) f .state) (Precharge true A) (record {
-        count-end = counted _ q; retention = refl; row-time = refl; power-up = allowed (t + 1) (omega arith); recovery = refl; operand = refl; misplaced = refl;
-        distance = refl; contention = refl }))
+        count-end = counted _ q;
+        retention = refl;
+        row-time = refl;
+        power-up = allowed (t + 1) (omega arith);
+        recovery = refl;
+        operand = refl;
+        misplaced = refl;
+        distance = refl;
+        contention = refl;
+      }))
       (still (s .cl) (lined (wake s (shut (t + 1) (t + 1)) f) []))
 
   is-mode : not (listed-mode (s .cl) (mode-code s)) ≡ false
@@ -131,12 +148,20 @@ module _ (s : Sheet) (f : ℕ → ℕ) where
       let e₃ : (mode-code s) / 8 ≡ s .cl * 2 = omega arith in
       let e₂ : (mode-code s) / 8 % 2 ≡ 0 = ap (λ y. y % 2) e₃ ∙ even (s .cl) in
       let u : _≡_ {A = Mode} (record { length = coded ((mode-code s) % 8); interleaved = eqb ((mode-code s) / 8 % 2) 1 }) (record { length = One; interleaved = false }) =
-          λ i. record { length = coded (e₁ i); interleaved = eqb (e₂ i) 1 } in
+      λ i. record { length = coded (e₁ i); interleaved = eqb (e₂ i) 1 } in
       let n : Meaning = wake s (tuned c (t + 1) (t + 1)) f in
       one s (shut c t) f (lmr (mode-code s)) (LoadMode (mode-code s)) _ (ap LoadMode {x = (mode-code s) % 1024} {y = (mode-code s)} (mod-eq-of-lt (omega arith)))
       (none-found (wake s (shut c t) f .state) (LoadMode (mode-code s)) (record {
-        count-end = counted _ q; retention = refl; row-time = refl; power-up = allowed (t + 1) (omega arith); recovery = refl; operand = is-mode; misplaced = refl;
-        distance = or-both _ _ far far; contention = refl }))
+        count-end = counted _ q;
+        retention = refl;
+        row-time = refl;
+        power-up = allowed (t + 1) (omega arith);
+        recovery = refl;
+        operand = is-mode;
+        misplaced = refl;
+        distance = or-both _ _ far far;
+        contention = refl;
+      }))
       (λ i. record {
         state = record {
           sheet = s;
@@ -162,8 +187,16 @@ module _ (s : Sheet) (f : ℕ → ℕ) where
       let far : ltb (t + 1) (c + s .rp) ≡ false = le-ltb (t + 1) (c + s .rp) r in
       one s (tuned c l t) f ref Refresh _ refl
       (none-found (wake s (tuned c l t) f .state) Refresh (record {
-        count-end = counted _ q; retention = refl; row-time = refl; power-up = allowed (t + 1) (omega arith); recovery = le-ltb (t + 1) (l + 2) k; operand = refl;
-        misplaced = refl; distance = or-both _ _ (or-both _ _ far far) refl; contention = refl }))
+        count-end = counted _ q;
+        retention = refl;
+        row-time = refl;
+        power-up = allowed (t + 1) (omega arith);
+        recovery = le-ltb (t + 1) (l + 2) k;
+        operand = refl;
+        misplaced = refl;
+        distance = or-both _ _ (or-both _ _ far far) refl;
+        contention = refl;
+      }))
       (still (s .cl) (lined (wake s (once c l (t + 1) (t + 1)) f) []))
 
   pub fresh-twice : (c l r t : ℕ) → s .pup ≤ t → c + s .rp ≤ t + 1 → l + 2 ≤ t + 1 → r + s .rc ≤ t + 1 → t + 1 < 2 ^ 62
@@ -172,9 +205,16 @@ module _ (s : Sheet) (f : ℕ → ℕ) where
       let far : ltb (t + 1) (c + s .rp) ≡ false = le-ltb (t + 1) (c + s .rp) k in
       one s (once c l r t) f ref Refresh _ refl
       (none-found (wake s (once c l r t) f .state) Refresh (record {
-        count-end = counted _ q; retention = refl; row-time = refl; power-up = allowed (t + 1) (omega arith);
-        recovery = or-both _ _ (le-ltb (t + 1) (r + s .rc) x) (le-ltb (t + 1) (l + 2) m); operand = refl; misplaced = refl;
-        distance = or-both _ _ (or-both _ _ far far) refl; contention = refl }))
+        count-end = counted _ q;
+        retention = refl;
+        row-time = refl;
+        power-up = allowed (t + 1) (omega arith);
+        recovery = or-both _ _ (le-ltb (t + 1) (r + s .rc) x) (le-ltb (t + 1) (l + 2) m);
+        operand = refl;
+        misplaced = refl;
+        distance = or-both _ _ (or-both _ _ far far) refl;
+        contention = refl;
+      }))
       (still (s .cl) (lined (awake s f c l (t + 1)) (replicate (s .n) (t + 1))))
 
   paced-first : (x t n : ℕ) → Paced x (t + x) (replicate n t)
@@ -184,9 +224,9 @@ module _ (s : Sheet) (f : ℕ → ℕ) where
   pub rests-first : (c l t : ℕ) → l + 2 ≤ t + s .rc → ((x : ℕ) → f x < 2 ^ 32) → Rests s (awake s f c l t) (primed s c t)
   rests-first c l t h w = record {
     as-told =
-      let e : replicate (s .cl) false ≡ beats (silent (s .cl)) = sym (map-same is-some (s .cl) None) in
-      let u : replicate (s .cl) 0 ≡ words (silent (s .cl)) = sym (map-same value (s .cl) None) in
-      λ i. lined (awake s f c l t) (replicate (s .n) t) 0 (e i) (u i);
+        let e : replicate (s .cl) false ≡ beats (silent (s .cl)) = sym (map-same is-some (s .cl) None) in
+        let u : replicate (s .cl) 0 ≡ words (silent (s .cl)) = sym (map-same value (s .cl) None) in
+        λ i. lined (awake s f c l t) (replicate (s .n) t) 0 (e i) (u i);
     bank = elim [ A ↦ record { opened = tt; closed = omega arith; written = tt } | B ↦ record { opened = tt; closed = omega arith; written = tt } ];
     refreshed = omega arith;
     loaded = h;
@@ -220,24 +260,24 @@ wakes most few s m e w =
     let x₁ : Stretch (wake s (switched t) f) (wake s (shut c c) f) 1 [] = passes-stretch _ _ _ (shuts s f t (omega arith) (omega arith)) in
     let x₂ : Stretch (wake s (shut c c) f) (wake s (shut c (c + (s .rp - 1))) f) (s .rp - 1) [] = quiets s f (s .rp - 1) (shut c c) (omega arith) in
     let x₃ : Stretch (wake s (shut c (c + (s .rp - 1))) f) (wake s (tuned c l l) f) 1 [] =
-        passes-stretch _ _ _ (tunes s f c (c + (s .rp - 1)) (omega arith) (omega arith) (omega arith)) in
+    passes-stretch _ _ _ (tunes s f c (c + (s .rp - 1)) (omega arith) (omega arith) (omega arith)) in
     let x₄ : Stretch (wake s (tuned c l l) f) (wake s (tuned c l (l + 1)) f) 1 [] = quiets s f 1 (tuned c l l) (omega arith) in
     let x₅ : Stretch (wake s (tuned c l (l + 1)) f) (wake s (once c l q q) f) 1 [] =
-        passes-stretch _ _ _ (fresh-once s f c l (l + 1) (omega arith) (omega arith) (omega arith) (omega arith)) in
+    passes-stretch _ _ _ (fresh-once s f c l (l + 1) (omega arith) (omega arith) (omega arith) (omega arith)) in
     let x₆ : Stretch (wake s (once c l q q) f) (wake s (once c l q (q + (s .rc - 1))) f) (s .rc - 1) [] = quiets s f (s .rc - 1) (once c l q q) (omega arith) in
     let x₇ : Stretch (wake s (once c l q (q + (s .rc - 1))) f) (awake s f c l z) 1 [] =
-        passes-stretch _ _ _ (fresh-twice s f c l q (q + (s .rc - 1)) (omega arith) (omega arith) (omega arith) (omega arith) (omega arith)) in
+    passes-stretch _ _ _ (fresh-twice s f c l q (q + (s .rc - 1)) (omega arith) (omega arith) (omega arith) (omega arith) (omega arith)) in
     let y = stretch-then _ _ _ _ _ _ _ x₁ (stretch-then _ _ _ _ _ _ _ x₂ (stretch-then _ _ _ _ _ _ _ x₃ (stretch-then _ _ _ _ _ _ _ x₄
-        (stretch-then _ _ _ _ _ _ _ x₅ (stretch-then _ _ _ _ _ _ _ x₆ x₇))))) in
+    (stretch-then _ _ _ _ _ _ _ x₅ (stretch-then _ _ _ _ _ _ _ x₆ x₇))))) in
     let e₁ : c ≡ s .pup + 1 = omega arith in
     let e₂ : z ≡ s .pup + (s .rp + s .rc + 3) = omega arith in
     let on : switch-on m ≡ wake s (switched 0) f = woken-on s m e in
     record {
       settled = subst (λ y. Stretch y (wake s (switched t) f) t []) (sym on)
-        (subst (λ y. Stretch (wake s (switched 0) f) (wake s (switched y) f) t []) (zero-add t) (quiets s f t (switched 0) (omega arith)));
+          (subst (λ y. Stretch (wake s (switched 0) f) (wake s (switched y) f) t []) (zero-add t) (quiets s f t (switched 0) (omega arith)));
       end = awake s f c l z;
       rests = subst (λ y. Rests s (awake s f c l z) (primed s (s .pup + 1) y)) e₂
-        (subst (λ y. Rests s (awake s f c l z) (primed s y z)) e₁ (rests-first s f c l z (omega arith) w));
+          (subst (λ y. Rests s (awake s f c l z) (primed s y z)) e₁ (rests-first s f c l z (omega arith) w));
       cells = refl;
       stretch = stretch-is _ _ _ _ _ _ y (omega arith) refl;
       soon = omega arith;

@@ -35,9 +35,17 @@ use Rattle.schedule.proofs.Filling.{written-append}
 -- The ledger may know of data yet to come.
 
 later-written : (s : Sheet) (line : List (Option ℕ)) (m : Meaning) (d e : Ledger) → Steady s line m d → ((b : BankName) → track d b .written ≤ track e b .written)
-    → e ≡ record { clock = d .clock; due = d .due; free = d .free; bus = d .bus; block = d .block; mask = d .mask; colour = d .colour;
-        a = record { row = d .a .row; opened = d .a .opened; closed = d .a .closed; written = e .a .written };
-        b = record { row = d .b .row; opened = d .b .opened; closed = d .b .closed; written = e .b .written } }
+    → e ≡ record {
+      clock = d .clock;
+      due = d .due;
+      free = d .free;
+      bus = d .bus;
+      block = d .block;
+      mask = d .mask;
+      colour = d .colour;
+      a = record { row = d .a .row; opened = d .a .opened; closed = d .a .closed; written = e .a .written };
+      b = record { row = d .b .row; opened = d .b .opened; closed = d .b .closed; written = e .b .written };
+    }
     → Steady s line m e
 later-written s line m d e k h q = subst (λ x. Steady s line m x) (sym q) (record {
   as-told = k .as-told;
@@ -75,18 +83,19 @@ writes-on s m₀ m d b c k j w ws p f r h l u q x =
     let hd : track e b ≡ track d b = track-at d (d .clock + j) b in
     let o = ap (λ y. y .opened) hd in
     let n = ap (λ y. y .written) hd in
-    let y = goes s m e p (Column Write b false (c + j)) (x .rests) (timely-at d (d .clock + j) _ (timely-before d (d .clock + k) (next e) (omega arith) (r .timely)))
-        (record { low = refl; row-open = ap (λ y. is-some (y .row)) hd ∙ r .row-open; free = omega (arith, r .free); rcd = omega (arith, r .rcd); bwc = omega (arith, r .bwc) },
-         record { bus = omega (arith, r .bus); nothing-leaves = leaving-silent (s .cl) }) q refl in
+    let y = goes s m e p (Column Write b false (c + j)) (x .rests) (timely-at d (d .clock + j) _ (timely-before d (d .clock + k) (next e) (omega arith) (r .timely))) (
+      record { low = refl; row-open = ap (λ y. is-some (y .row)) hd ∙ r .row-open; free = omega (arith, r .free); rcd = omega (arith, r .rcd); bwc = omega (arith, r .bwc) },
+      record { bus = omega (arith, r .bus); nothing-leaves = leaving-silent (s .cl) },
+    ) q refl in
     let address-is : address s e b (c + j) ≡ address s d b c + length ws = rw hd (omega arith) in
     let z : Went s m (step m p) e (at-clock (d .clock + j + 1) d) 1 [] (written (address s d b c + length ws) (d .mask) w (m .cells)) = record {
-          rests = still-known s (step m p) e b (p .dq) (c + j) (omega (arith, r .known)) (y .rests);
-          later = refl;
-          cells = y .cells ∙ (λ i. written (address-is i) (d .mask) (u i) (m .cells));
-          stretch = y .stretch;
-        } in
+      rests = still-known s (step m p) e b (p .dq) (c + j) (omega (arith, r .known)) (y .rests);
+      later = refl;
+      cells = y .cells ∙ (λ i. written (address-is i) (d .mask) (u i) (m .cells));
+      stretch = y .stretch;
+    } in
     went-is _ _ (went-then (j + 1) [] x z refl refl) (ap (λ v. at-clock v d) (omega arith))
-        ((λ i. written (address s d b c + length ws) (d .mask) w (x .cells i)) ∙ sym (written-append ws (w ∷ []) f (address s d b c) (d .mask)))
+    ((λ i. written (address s d b c + length ws) (d .mask) w (x .cells i)) ∙ sym (written-append ws (w ∷ []) f (address s d b c) (d .mask)))
 
 -- A whole row of words, under a ledger that learns of each as it is written.
 
@@ -127,10 +136,11 @@ writable-next s d B c w ws q = record {
 write-one : (s : Sheet) (m : Meaning) (d : Ledger) (b : BankName) (c w : ℕ) (ws : List ℕ) → Rests s m d → Writable s d b c (w ∷ ws)
     → Went s m (step m (wr (at-bank b c) w)) d (wrote-at (next d) b d) 1 [] (written (address s d b c) (d .mask) w (m .cells))
 write-one s m d b c w ws r q =
-    goes s m d (wr (at-bank b c) w) (Column Write b false c) r (timely-before d (d .clock + length (w ∷ ws)) (next d) (omega arith) (q .timely))
-        (record { low = refl; row-open = q .row-open; free = q .free; rcd = q .rcd; bwc = q .bwc },
-         record { bus = q .bus; nothing-leaves = leaving-silent (s .cl) })
-        (brings-wr b c w (omega (arith, q .inside)) (q .small .0)) refl
+    goes s m d (wr (at-bank b c) w) (Column Write b false c) r (timely-before d (d .clock + length (w ∷ ws)) (next d) (omega arith) (q .timely)) (
+      record { low = refl; row-open = q .row-open; free = q .free; rcd = q .rcd; bwc = q .bwc },
+      record { bus = q .bus; nothing-leaves = leaving-silent (s .cl) },
+    )
+    (brings-wr b c w (omega (arith, q .inside)) (q .small .0)) refl
 
 pub writes : Row-written
 writes [] s m d b c w r q =
@@ -144,11 +154,11 @@ writes (v ∷ vs) s m d b c w r q =
     let k : ℕ = length (w ∷ (v ∷ vs)) in
     let x : Went s m m′ d d′ 1 [] (written (address s d b c) (d .mask) w (m .cells)) = write-one s m d b c w (v ∷ vs) r q in
     let y : Went s m′ n d′ (wrote-at (next d + length (v ∷ vs)) b d′) (length (v ∷ vs)) [] (all-written (address s d′ b (suc c)) (d .mask) (v ∷ vs) (m′ .cells)) =
-        writes vs s m′ d′ b (suc c) v (x .rests) (writable-next s d b c w (v ∷ vs) q) in
+    writes vs s m′ d′ b (suc c) v (x .rests) (writable-next s d b c w (v ∷ vs) q) in
     let e : next d + length (v ∷ vs) ≡ d .clock + k = omega arith in
     let u : wrote-at (next d + length (v ∷ vs)) b d′ ≡ wrote-at (d .clock + k) b d = ap (λ t. wrote-at t b d′) e ∙ wrote-twice d b (next d) (d .clock + k) in
     let z : Went s m n d (wrote-at (next d + length (v ∷ vs)) b d′) k [] (all-written (address s d′ b (suc c)) (d .mask) (v ∷ vs) (m′ .cells)) =
-        went-then k [] x y (omega arith) refl in
+    went-then k [] x y (omega arith) refl in
     subst (λ h. Went s m n d h k [] (all-written (address s d b c) (d .mask) (w ∷ (v ∷ vs)) (m .cells))) u
-        (subst (λ h. Went s m n d (wrote-at (next d + length (v ∷ vs)) b d′) k [] h)
-            (λ i. all-written (address-next s d b (next d) c i) (d .mask) (v ∷ vs) (x .cells i)) z)
+    (subst (λ h. Went s m n d (wrote-at (next d + length (v ∷ vs)) b d′) k [] h)
+    (λ i. all-written (address-next s d b (next d) c i) (d .mask) (v ∷ vs) (x .cells i)) z)

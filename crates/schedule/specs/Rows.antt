@@ -38,13 +38,13 @@ All-wait = (k : ℕ) (s : Sheet) (m : Meaning) (d : Ledger) → Rests s m d → 
 abbrev pub Row-read : Type 0
 Row-read = (s : Sheet) (m : Meaning) (d : Ledger) (b : BankName) (c k : ℕ) → Rests s m d → Readable s d b c k
     → Went s m (run m (steps-from (reading-pins b c k) 0 (k + s .cl))) d (at-clock (d .clock + (k + s .cl)) d) (k + s .cl)
-        (span (m .cells) (address s d b c) k) (m .cells)
+    (span (m .cells) (address s d b c) k) (m .cells)
 
 -- words written in an open row take a clock each
 abbrev pub Row-written : Type 0
 Row-written = (ws : List ℕ) (s : Sheet) (m : Meaning) (d : Ledger) (b : BankName) (c w : ℕ) → Rests s m d → Writable s d b c (w ∷ ws)
     → Went s m (run m (writing-pins b c (w ∷ ws))) d (wrote-at (d .clock + length (w ∷ ws)) b d) (length (w ∷ ws)) []
-        (all-written (address s d b c) (d .mask) (w ∷ ws) (m .cells))
+    (all-written (address s d b c) (d .mask) (w ∷ ws) (m .cells))
 
 -- a block write of the columns from lo up to hi goes on with a fill of the n words from x on
 abbrev pub Block-filled : Type 0
@@ -52,13 +52,13 @@ Block-filled = (s : Sheet) (m : Meaning) (d : Ledger) (b : BankName) (c lo hi : 
     → Reachable s d b false → d .bus ≤ next d → c < 256 → c % 8 ≡ 0 → lo ≤ hi → hi ≤ 8
     → m .cells ≡ spread f x n (d .mask) (λ _. d .colour) → address s d b c + lo ≡ x + n
     → Went s m (step m (bw (at-bank b c) (columns lo hi))) d (after s (columns lo hi) (Column Block b false c) d) 1 []
-        (spread f x (n + (hi - lo)) (d .mask) (λ _. d .colour))
+    (spread f x (n + (hi - lo)) (d .mask) (λ _. d .colour))
 
 -- n words filled by k + 1 block writes in an open row take k times bwc and one clock
 abbrev pub Row-filled : Type 0
 Row-filled = (k : ℕ) (s : Sheet) (m : Meaning) (d : Ledger) (b : BankName) (c n : ℕ) → Rests s m d → Fillable s d b c n k
     → Went s m (run m (filling-pins b (s .bwc) k c n)) d (blocked-at (d .clock + (k * s .bwc + 1)) b d) (k * s .bwc + 1) []
-        (spread (m .cells) (address s d b c) n (d .mask) (λ _. d .colour))
+    (spread (m .cells) (address s d b c) n (d .mask) (λ _. d .colour))
 
 pub record Rows-served : Type 0 where
   pub one : One-goes

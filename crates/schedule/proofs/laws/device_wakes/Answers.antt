@@ -3,4 +3,4 @@ use Rattle.schedule.proofs.Waking.{wakes, by-step}
 use Rattle.schedule.proofs.laws.device_wakes.Needs as need
 
 pub returns : need.returns
-returns c = record { whole = wakes 700 (omega arith); steps = by-step }
+returns c = record { whole = wakes _ (omega arith); steps = by-step }
