@@ -13,7 +13,7 @@ use Rattle.rules.proofs.Runs.{run-join, outs-join}
 use Rattle.schedule.specs.declared.ledger.Ledger.{Ledger}
 use Rattle.schedule.specs.Stretch.{heard, Stretch, Rests, Went}
 
-heard-append : (os us : List (ℕ × ℕ)) → heard (os ++ us) ≡ heard os ++ heard us
+pub heard-append : (os us : List (ℕ × ℕ)) → heard (os ++ us) ≡ heard os ++ heard us
 heard-append [] us = refl
 heard-append (o ∷ os) us =
     let h = heard-append os us in

@@ -2,10 +2,10 @@
 use Prim.Native.Nat.{ℕ, zero, suc, _+_, _-_, _*_, _/_, _%_, _^_, _≤_, _<_}
 use mathlib.Core.Path.{_≡_, refl, sym, ap, _∙_, subst}
 use mathlib.Core.Bool.{Bool, true, false, cond, _&&_, not}
-use mathlib.Core.List.{List, [], _∷_}
+use mathlib.Core.List.{List, [], _∷_, _++_}
 use lib.Bits.{bitAnd}
 use lib.Dec.{ltb, eqb}
-use lib.ListN.{replicate, length-replicate}
+use lib.ListN.{length, replicate, length-append, length-replicate}
 use native.Mathlib.Omega.{arith}
 use native.Mathlib.Nat.{add-zero, zero-add, mod-eq-of-lt}
 use Rattle.std.proofs.shelf.Bits.{mod-mul-add}
@@ -25,18 +25,19 @@ use Rattle.rules.specs.Delay.{passed, leaving}
 use Rattle.rules.specs.State.{is-some, ready}
 use Rattle.rules.specs.Faults.{lanes-of, listed-mode, found}
 use Rattle.rules.specs.Step.{coded}
-use Rattle.rules.specs.Meaning.{Meaning, step, switch-on, shown}
+use Rattle.rules.specs.Meaning.{Meaning, switch-on, run, outs}
 use Rattle.rules.specs.Cases.{nop, pre-both, ref, lmr}
 use Rattle.rules.proofs.Clear.{none-found}
+use Rattle.rules.proofs.Runs.{run-join, outs-join}
 use Rattle.schedule.specs.Line.{value, silent, beats, words}
 use Rattle.schedule.specs.Ledger.{told, period, Paced}
-use Rattle.schedule.specs.Stretch.{Stretch, Rests}
-use Rattle.schedule.specs.Waking.{Waking, wake, switched, shut, tuned, once, primed, awake, Passes, waking-at, mode-code, Wakes-by-step, Wakes}
+use Rattle.schedule.specs.Stretch.{heard, Stretch, Rests}
+use Rattle.schedule.specs.Waking.{Waking, wake, switched, shut, tuned, once, primed, awake, Passes, waking-at, mode-code, priming-pins, Wakes-by-step, settled, Settles, Primes}
 use Rattle.schedule.proofs.Times.{or-both, and-false}
 use Rattle.schedule.proofs.Lines.{map-same, passed-same, leaving-same}
 use Rattle.schedule.proofs.Keeps.{moved-as}
 use Rattle.schedule.proofs.Obeying.{step-as, out-as}
-use Rattle.schedule.proofs.Chains.{stretch-none, stretch-silent, stretch-then, stretch-is}
+use Rattle.schedule.proofs.Chains.{heard-append}
 
 counted : (t : ℕ) → t < 2 ^ 62 → eqb t (2 ^ 62) ≡ false
 counted t h = ne-eqb t (2 ^ 62) (omega arith)
@@ -50,13 +51,27 @@ pub silent-shown : (k : ℕ)
 silent-shown zero = refl
 silent-shown (suc k) = refl
 
+pub passes-none : (m : Meaning) → Passes m [] m
+passes-none m = record { leads = refl; silent = refl }
+
+pub passes-then : (m n o : Meaning) (ps qs : List Pins) → Passes m ps n → Passes n qs o → Passes m (ps ++ qs) o
+passes-then m n o ps qs x y = record {
+  leads = run-join m ps qs ∙ ap (λ z. run z qs) (x .leads) ∙ y .leads;
+  silent =
+    let here : heard (outs (run m ps) qs) ≡ [] = ap (λ z. heard (outs z qs)) (x .leads) ∙ y .silent in
+    ap heard (outs-join m ps qs) ∙ heard-append (outs m ps) (outs (run m ps) qs) ∙ (λ i. x .silent i ++ here i);
+}
+
+pub passes-stretch : (m n : Meaning) (ps : List Pins) (k : ℕ) → Passes m ps n → length ps ≡ k → Stretch m (run m ps) k []
+passes-stretch m n ps k x e = record { pins = ps; long = e; leads = refl; words = x .silent }
+
 -- a clock without a fault in power-up drives nothing
 one : (s : Sheet) (w : Waking) (f : ℕ → ℕ) (p : Pins) (c : Command) (n : Meaning) → command p ≡ c → found (wake s w f .state) c ≡ None
-    → moved-as (wake s w f) p c ≡ n → Passes (wake s w f) p n
-one s w f p c n e z u = record { leads = step-as (wake s w f) p c refl z e ∙ u; silent = out-as (wake s w f) p c refl z e ∙ silent-shown (s .cl) }
-
-pub passes-stretch : (m : Meaning) (p : Pins) (n : Meaning) → Passes m p n → Stretch m n 1 []
-passes-stretch m p n x = subst (λ y. Stretch m y 1 []) (x .leads) (stretch-silent m p (x .silent))
+    → moved-as (wake s w f) p c ≡ n → Passes (wake s w f) (p ∷ []) n
+one s w f p c n e z u = record {
+  leads = step-as (wake s w f) p c refl z e ∙ u;
+  silent = ap (λ o. heard (o ∷ [])) (out-as (wake s w f) p c refl z e ∙ silent-shown (s .cl));
+}
 
 -- the same meaning with other lines, lanes and marks
 abbrev lined : Meaning → List ℕ → ℕ → List Bool → List ℕ → Meaning
@@ -90,7 +105,7 @@ still : (k : ℕ) (d : ℕ → List Bool → List ℕ → Meaning)
 still k d = λ i. d (lanes-of 0 (leaving-same k false i)) (passed-same k false i) (passed-same k 0 i)
 
 module _ (s : Sheet) (f : ℕ → ℕ) where
-  pub quiet-one : (w : Waking) → w .clock + 1 < 2 ^ 62 → Passes (wake s w f) nop (wake s (waking-at w (w .clock + 1)) f)
+  pub quiet-one : (w : Waking) → w .clock + 1 < 2 ^ 62 → Passes (wake s w f) (nop ∷ []) (wake s (waking-at w (w .clock + 1)) f)
   quiet-one w h = one s w f nop Nop _ refl
       (none-found (wake s w f .state) Nop (record {
         count-end = counted _ h;
@@ -106,19 +121,18 @@ module _ (s : Sheet) (f : ℕ → ℕ) where
       (λ i. lined (wake s (waking-at w (w .clock + 1)) f) (marks-still (ready (w .steps)) (replicate (s .n) (w .clock + 1)) i)
       (lanes-of 0 (leaving-same (s .cl) false i)) (passed-same (s .cl) false i) (passed-same (s .cl) 0 i))
 
-  pub quiets : (k : ℕ) (w : Waking) → w .clock + k < 2 ^ 62 → Stretch (wake s w f) (wake s (waking-at w (w .clock + k)) f) k []
-  quiets zero w h = rw (add-zero (w .clock)) (stretch-none (wake s w f))
+  pub quiets : (k : ℕ) (w : Waking) → w .clock + k < 2 ^ 62 → Passes (wake s w f) (replicate k nop) (wake s (waking-at w (w .clock + k)) f)
+  quiets zero w h = rw (add-zero (w .clock)) (passes-none (wake s w f))
   quiets (suc k) w h =
       let e : w .clock + 1 + k ≡ w .clock + suc k = omega arith in
-      let x = passes-stretch _ _ _ (quiet-one w (omega arith)) in
+      let x = quiet-one w (omega arith) in
       let y = quiets k (waking-at w (w .clock + 1)) (omega arith) in
-      let z = stretch-is _ _ _ (suc k) _ [] (stretch-then _ _ _ _ _ _ _ x y) (omega arith) refl in
-      subst (λ u. Stretch (wake s w f) (wake s (waking-at w u) f) (suc k) []) e z
+      subst (λ u. Passes (wake s w f) (replicate (suc k) nop) (wake s (waking-at w u) f)) e (passes-then _ _ _ (nop ∷ []) (replicate k nop) x y)
 
   allowed : (t : ℕ) → s .pup < t → not (ltb (s .pup) t && true) ≡ false
   allowed t h = ap (λ z. not (z && true)) (lt-ltb (s .pup) t h)
 
-  pub shuts : (t : ℕ) → s .pup ≤ t → t + 1 < 2 ^ 62 → Passes (wake s (switched t) f) pre-both (wake s (shut (t + 1) (t + 1)) f)
+  pub shuts : (t : ℕ) → s .pup ≤ t → t + 1 < 2 ^ 62 → Passes (wake s (switched t) f) (pre-both ∷ []) (wake s (shut (t + 1) (t + 1)) f)
   shuts t h q = one s (switched t) f pre-both (Precharge true A) _ refl
       (none-found (wake s (switched t) f .state) (Precharge true A) (record {
         count-end = counted _ q;
@@ -140,7 +154,7 @@ module _ (s : Sheet) (f : ℕ → ℕ) where
       let e : listed-mode (s .cl) (mode-code s) ≡ true = rw (lt-ltb ((mode-code s) % 8) 4 (omega arith), lt-ltb (mode-code s) 128 (omega arith), eq-eqb ((mode-code s) / 16 % 8) (s .cl) e₁) refl in
       ap not e
 
-  pub tunes : (c t : ℕ) → s .pup ≤ t → c + s .rp ≤ t + 1 → t + 1 < 2 ^ 62 → Passes (wake s (shut c t) f) (lmr (mode-code s)) (wake s (tuned c (t + 1) (t + 1)) f)
+  pub tunes : (c t : ℕ) → s .pup ≤ t → c + s .rp ≤ t + 1 → t + 1 < 2 ^ 62 → Passes (wake s (shut c t) f) (lmr (mode-code s) ∷ []) (wake s (tuned c (t + 1) (t + 1)) f)
   tunes c t h r q =
       let l = s .«cl_range» in
       let far : ltb (t + 1) (c + s .rp) ≡ false = le-ltb (t + 1) (c + s .rp) r in
@@ -182,7 +196,7 @@ module _ (s : Sheet) (f : ℕ → ℕ) where
       })
 
   pub fresh-once : (c l t : ℕ) → s .pup ≤ t → c + s .rp ≤ t + 1 → l + 2 ≤ t + 1 → t + 1 < 2 ^ 62
-      → Passes (wake s (tuned c l t) f) ref (wake s (once c l (t + 1) (t + 1)) f)
+      → Passes (wake s (tuned c l t) f) (ref ∷ []) (wake s (once c l (t + 1) (t + 1)) f)
   fresh-once c l t h r k q =
       let far : ltb (t + 1) (c + s .rp) ≡ false = le-ltb (t + 1) (c + s .rp) r in
       one s (tuned c l t) f ref Refresh _ refl
@@ -200,7 +214,7 @@ module _ (s : Sheet) (f : ℕ → ℕ) where
       (still (s .cl) (lined (wake s (once c l (t + 1) (t + 1)) f) []))
 
   pub fresh-twice : (c l r t : ℕ) → s .pup ≤ t → c + s .rp ≤ t + 1 → l + 2 ≤ t + 1 → r + s .rc ≤ t + 1 → t + 1 < 2 ^ 62
-      → Passes (wake s (once c l r t) f) ref (awake s f c l (t + 1))
+      → Passes (wake s (once c l r t) f) (ref ∷ []) (awake s f c l (t + 1))
   fresh-twice c l r t h k m x q =
       let far : ltb (t + 1) (c + s .rp) ≡ false = le-ltb (t + 1) (c + s .rp) k in
       one s (once c l r t) f ref Refresh _ refl
@@ -239,16 +253,27 @@ module _ (s : Sheet) (f : ℕ → ℕ) where
     colour = omega arith;
   }
 
-pub woken-on : (s : Sheet) (m : Meaning) → m .state .sheet ≡ s → switch-on m ≡ wake s (switched 0) (m .cells)
-woken-on s m e = ap (λ y. wake y (switched 0) (m .cells)) e
-
 pub by-step : Wakes-by-step
-by-step = record { on = woken-on; quiet = quiet-one; shuts = shuts; tunes = tunes; first = fresh-once; second = fresh-twice; rests = rests-first }
+by-step = record { quiet = quiets; shuts = shuts; tunes = tunes; first = fresh-once; second = fresh-twice; rests = rests-first }
 
--- From any state to rest.
-pub wakes : (most : ℕ) → 81 ≤ most → Wakes most
-wakes most few s m e w =
-    let f : ℕ → ℕ = m .cells in
+-- From any state, pup quiet clocks.
+pub settles : Settles
+settles s m e =
+    let r = s .«pup_range» in
+    let on : switch-on m ≡ wake s (switched 0) (m .cells) = ap (λ y. wake y (switched 0) (m .cells)) e in
+    let x : Passes (wake s (switched 0) (m .cells)) (replicate (s .pup) nop) (settled s (m .cells)) =
+        subst (λ y. Passes (wake s (switched 0) (m .cells)) (replicate (s .pup) nop) (wake s (switched y) (m .cells))) (zero-add (s .pup))
+          (quiets s (m .cells) (s .pup) (switched 0) (omega arith)) in
+    let y : Passes (switch-on m) (replicate (s .pup) nop) (settled s (m .cells)) =
+        subst (λ z. Passes z (replicate (s .pup) nop) (settled s (m .cells))) (sym on) x in
+    record { leads = y .leads; stretch = passes-stretch _ _ _ _ y (length-replicate (s .pup) nop) }
+
+length-priming : (a b : ℕ) (p q r t u : Pins) → length (p ∷ (replicate a u ++ (q ∷ (u ∷ (r ∷ (replicate b u ++ (t ∷ []))))))) ≡ a + b + 5
+length-priming a b p q r t u = simp (length-append, length-replicate) (omega arith)
+
+-- A settled device, primed.
+pub primes : (most : ℕ) → 81 ≤ most → Primes most
+primes most few s f w =
     let t : ℕ = s .pup in
     let c : ℕ = t + 1 in
     let l : ℕ = c + (s .rp - 1) + 1 in
@@ -257,28 +282,27 @@ wakes most few s m e w =
     let r₁ = s .«pup_range» in
     let r₂ = s .«rp_range» in
     let r₃ = s .«rc_range» in
-    let x₁ : Stretch (wake s (switched t) f) (wake s (shut c c) f) 1 [] = passes-stretch _ _ _ (shuts s f t (omega arith) (omega arith)) in
-    let x₂ : Stretch (wake s (shut c c) f) (wake s (shut c (c + (s .rp - 1))) f) (s .rp - 1) [] = quiets s f (s .rp - 1) (shut c c) (omega arith) in
-    let x₃ : Stretch (wake s (shut c (c + (s .rp - 1))) f) (wake s (tuned c l l) f) 1 [] =
-    passes-stretch _ _ _ (tunes s f c (c + (s .rp - 1)) (omega arith) (omega arith) (omega arith)) in
-    let x₄ : Stretch (wake s (tuned c l l) f) (wake s (tuned c l (l + 1)) f) 1 [] = quiets s f 1 (tuned c l l) (omega arith) in
-    let x₅ : Stretch (wake s (tuned c l (l + 1)) f) (wake s (once c l q q) f) 1 [] =
-    passes-stretch _ _ _ (fresh-once s f c l (l + 1) (omega arith) (omega arith) (omega arith) (omega arith)) in
-    let x₆ : Stretch (wake s (once c l q q) f) (wake s (once c l q (q + (s .rc - 1))) f) (s .rc - 1) [] = quiets s f (s .rc - 1) (once c l q q) (omega arith) in
-    let x₇ : Stretch (wake s (once c l q (q + (s .rc - 1))) f) (awake s f c l z) 1 [] =
-    passes-stretch _ _ _ (fresh-twice s f c l q (q + (s .rc - 1)) (omega arith) (omega arith) (omega arith) (omega arith) (omega arith)) in
-    let y = stretch-then _ _ _ _ _ _ _ x₁ (stretch-then _ _ _ _ _ _ _ x₂ (stretch-then _ _ _ _ _ _ _ x₃ (stretch-then _ _ _ _ _ _ _ x₄
-    (stretch-then _ _ _ _ _ _ _ x₅ (stretch-then _ _ _ _ _ _ _ x₆ x₇))))) in
+    let x₁ : Passes (settled s f) (pre-both ∷ []) (wake s (shut c c) f) = shuts s f t (omega arith) (omega arith) in
+    let x₂ : Passes (wake s (shut c c) f) (replicate (s .rp - 1) nop) (wake s (shut c (c + (s .rp - 1))) f) = quiets s f (s .rp - 1) (shut c c) (omega arith) in
+    let x₃ : Passes (wake s (shut c (c + (s .rp - 1))) f) (lmr (mode-code s) ∷ []) (wake s (tuned c l l) f) =
+        tunes s f c (c + (s .rp - 1)) (omega arith) (omega arith) (omega arith) in
+    let x₄ : Passes (wake s (tuned c l l) f) (nop ∷ []) (wake s (tuned c l (l + 1)) f) = quiet-one s f (tuned c l l) (omega arith) in
+    let x₅ : Passes (wake s (tuned c l (l + 1)) f) (ref ∷ []) (wake s (once c l q q) f) =
+        fresh-once s f c l (l + 1) (omega arith) (omega arith) (omega arith) (omega arith) in
+    let x₆ : Passes (wake s (once c l q q) f) (replicate (s .rc - 1) nop) (wake s (once c l q (q + (s .rc - 1))) f) =
+        quiets s f (s .rc - 1) (once c l q q) (omega arith) in
+    let x₇ : Passes (wake s (once c l q (q + (s .rc - 1))) f) (ref ∷ []) (awake s f c l z) =
+        fresh-twice s f c l q (q + (s .rc - 1)) (omega arith) (omega arith) (omega arith) (omega arith) (omega arith) in
+    let y : Passes (settled s f) (priming-pins s) (awake s f c l z) =
+        passes-then _ _ _ (pre-both ∷ []) _ x₁ (passes-then _ _ _ (replicate (s .rp - 1) nop) _ x₂ (passes-then _ _ _ (lmr (mode-code s) ∷ []) _ x₃
+          (passes-then _ _ _ (nop ∷ []) _ x₄ (passes-then _ _ _ (ref ∷ []) _ x₅ (passes-then _ _ _ (replicate (s .rc - 1) nop) _ x₆ x₇))))) in
     let e₁ : c ≡ s .pup + 1 = omega arith in
     let e₂ : z ≡ s .pup + (s .rp + s .rc + 3) = omega arith in
-    let on : switch-on m ≡ wake s (switched 0) f = woken-on s m e in
     record {
-      settled = subst (λ y. Stretch y (wake s (switched t) f) t []) (sym on)
-          (subst (λ y. Stretch (wake s (switched 0) f) (wake s (switched y) f) t []) (zero-add t) (quiets s f t (switched 0) (omega arith)));
-      end = awake s f c l z;
-      rests = subst (λ y. Rests s (awake s f c l z) (primed s (s .pup + 1) y)) e₂
-          (subst (λ y. Rests s (awake s f c l z) (primed s y z)) e₁ (rests-first s f c l z (omega arith) w));
-      cells = refl;
-      stretch = stretch-is _ _ _ _ _ _ y (omega arith) refl;
+      rests = subst (λ y. Rests s y (primed s (s .pup + 1) (s .pup + (s .rp + s .rc + 3)))) (sym (y .leads))
+        (subst (λ y. Rests s (awake s f c l z) (primed s (s .pup + 1) y)) e₂
+          (subst (λ y. Rests s (awake s f c l z) (primed s y z)) e₁ (rests-first s f c l z (omega arith) w)));
+      cells = ap (λ x. x .cells) (y .leads);
+      stretch = passes-stretch _ _ (priming-pins s) _ y (length-priming (s .rp - 1) (s .rc - 1) pre-both (lmr (mode-code s)) ref ref nop ∙ omega arith);
       soon = omega arith;
     }

@@ -1,8 +1,8 @@
 -- A device in power-up, under a driver that settles and primes it.
-use Prim.Native.Nat.{ℕ, _+_, _*_, _^_, _≤_, _<_}
+use Prim.Native.Nat.{ℕ, _+_, _-_, _*_, _^_, _≤_, _<_}
 use mathlib.Core.Path.{_≡_}
 use mathlib.Core.Bool.{true, false}
-use mathlib.Core.List.{List, [], _∷_}
+use mathlib.Core.List.{List, [], _∷_, _++_}
 use lib.ListN.{replicate}
 use Rattle.std.specs.declared.option.Option.{Option}
 use Rattle.std.specs.declared.option.Option.the-variants.{Some, None}
@@ -13,12 +13,12 @@ use Rattle.rules.specs.declared.state.Length.the-variants.{One}
 use Rattle.rules.specs.declared.state.Steps.{Steps}
 use Rattle.rules.specs.State.{Time}
 use Rattle.rules.specs.declared.pins.Pins.{Pins}
-use Rattle.rules.specs.Meaning.{Meaning, step, out, switch-on}
+use Rattle.rules.specs.Meaning.{Meaning, switch-on, run, outs}
 use Rattle.rules.specs.Cases.{nop, pre-both, lmr, ref}
 use Rattle.schedule.specs.declared.ledger.Ledger.{Ledger}
 use Rattle.schedule.specs.declared.ledger.Track.{Track}
 use Rattle.schedule.specs.Ledger.{period}
-use Rattle.schedule.specs.Stretch.{Stretch, Rests}
+use Rattle.schedule.specs.Stretch.{heard, Stretch, Rests}
 
 -- the clock, and what has come: PRE, LMR, and the first REF
 pub record Waking : Type 0 where
@@ -105,10 +105,10 @@ awake s f c l t = record {
   cells = f;
 }
 
--- a clock with the pins p leads from m to n, and drives nothing
-pub record Passes (m : Meaning) (p : Pins) (n : Meaning) : Type 0 where
-  pub leads : step m p ≡ n
-  pub silent : out m p ≡ (0, 0)
+-- the clocks lead from m to n, and no word is driven on all lanes in them
+pub record Passes (m : Meaning) (ps : List Pins) (n : Meaning) : Type 0 where
+  pub leads : run m ps ≡ n
+  pub silent : heard (outs m ps) ≡ []
 
 -- the same at another clock
 abbrev pub waking-at : Waking → ℕ → Waking
@@ -118,30 +118,42 @@ waking-at w t = record { clock = t; steps = w .steps; closed = w .closed; loaded
 abbrev pub mode-code : Sheet → ℕ
 mode-code s = s .cl * 16
 
+-- the clocks of priming
+abbrev pub priming-pins : Sheet → List Pins
+priming-pins s = pre-both ∷ (replicate (s .rp - 1) nop ++ (lmr (mode-code s) ∷ (nop ∷ (ref ∷ (replicate (s .rc - 1) nop ++ (ref ∷ []))))))
+
 -- Each clock of settling and priming.
 pub record Wakes-by-step : Type 0 where
-  pub on : (s : Sheet) (m : Meaning) → m .state .sheet ≡ s → switch-on m ≡ wake s (switched 0) (m .cells)
-  pub quiet : (s : Sheet) (f : ℕ → ℕ) (w : Waking) → w .clock + 1 < 2 ^ 62 → Passes (wake s w f) nop (wake s (waking-at w (w .clock + 1)) f)
+  pub quiet : (s : Sheet) (f : ℕ → ℕ) (k : ℕ) (w : Waking) → w .clock + k < 2 ^ 62 → Passes (wake s w f) (replicate k nop) (wake s (waking-at w (w .clock + k)) f)
   pub shuts : (s : Sheet) (f : ℕ → ℕ) (t : ℕ) → s .pup ≤ t → t + 1 < 2 ^ 62
-      → Passes (wake s (switched t) f) pre-both (wake s (shut (t + 1) (t + 1)) f)
+      → Passes (wake s (switched t) f) (pre-both ∷ []) (wake s (shut (t + 1) (t + 1)) f)
   pub tunes : (s : Sheet) (f : ℕ → ℕ) (c t : ℕ) → s .pup ≤ t → c + s .rp ≤ t + 1 → t + 1 < 2 ^ 62
-      → Passes (wake s (shut c t) f) (lmr (mode-code s)) (wake s (tuned c (t + 1) (t + 1)) f)
+      → Passes (wake s (shut c t) f) (lmr (mode-code s) ∷ []) (wake s (tuned c (t + 1) (t + 1)) f)
   pub first : (s : Sheet) (f : ℕ → ℕ) (c l t : ℕ) → s .pup ≤ t → c + s .rp ≤ t + 1 → l + 2 ≤ t + 1 → t + 1 < 2 ^ 62
-      → Passes (wake s (tuned c l t) f) ref (wake s (once c l (t + 1) (t + 1)) f)
+      → Passes (wake s (tuned c l t) f) (ref ∷ []) (wake s (once c l (t + 1) (t + 1)) f)
   pub second : (s : Sheet) (f : ℕ → ℕ) (c l r t : ℕ) → s .pup ≤ t → c + s .rp ≤ t + 1 → l + 2 ≤ t + 1 → r + s .rc ≤ t + 1 → t + 1 < 2 ^ 62
-      → Passes (wake s (once c l r t) f) ref (awake s f c l (t + 1))
+      → Passes (wake s (once c l r t) f) (ref ∷ []) (awake s f c l (t + 1))
   pub rests : (s : Sheet) (f : ℕ → ℕ) (c l t : ℕ) → l + 2 ≤ t + s .rc → ((x : ℕ) → f x < 2 ^ 32) → Rests s (awake s f c l t) (primed s c t)
 
--- From any state, switched on, pup quiet clocks and rp + rc + 3 more leave a device at rest, its cells as they were, and
--- drive nothing.
-pub record Woken (most : ℕ) (s : Sheet) (m : Meaning) : Type 0 where
-  pub settled : Stretch (switch-on m) (wake s (switched (s .pup)) (m .cells)) (s .pup) []
-  pub end : Meaning
-  pub rests : Rests s end (primed s (s .pup + 1) (s .pup + (s .rp + s .rc + 3)))
-  pub cells : end .cells ≡ m .cells
-  pub stretch : Stretch (wake s (switched (s .pup)) (m .cells)) end (s .rp + s .rc + 3) []
+-- a settled device: pup quiet clocks since switch-on
+abbrev pub settled : Sheet → (ℕ → ℕ) → Meaning
+settled s f = wake s (switched (s .pup)) f
+
+-- From any state, switched on, pup quiet clocks settle a device, its cells as they were.
+pub record Settled (s : Sheet) (m : Meaning) : Type 0 where
+  pub leads : run (switch-on m) (replicate (s .pup) nop) ≡ settled s (m .cells)
+  pub stretch : Stretch (switch-on m) (run (switch-on m) (replicate (s .pup) nop)) (s .pup) []
+
+abbrev pub Settles : Type 0
+Settles = (s : Sheet) (m : Meaning) → m .state .sheet ≡ s → Settled s m
+
+-- A settled device is at rest after rp + rc + 3 clocks, its cells as they were.
+pub record Primed (most : ℕ) (s : Sheet) (f : ℕ → ℕ) : Type 0 where
+  pub rests : Rests s (run (settled s f) (priming-pins s)) (primed s (s .pup + 1) (s .pup + (s .rp + s .rc + 3)))
+  pub cells : run (settled s f) (priming-pins s) .cells ≡ f
+  pub stretch : Stretch (settled s f) (run (settled s f) (priming-pins s)) (s .rp + s .rc + 3) []
   pub soon : s .rp + s .rc + 3 ≤ most
 
 -- priming takes at most so many clocks
-abbrev pub Wakes : ℕ → Type 0
-Wakes most = (s : Sheet) (m : Meaning) → m .state .sheet ≡ s → ((x : ℕ) → m .cells x < 2 ^ 32) → Woken most s m
+abbrev pub Primes : ℕ → Type 0
+Primes most = (s : Sheet) (f : ℕ → ℕ) → ((x : ℕ) → f x < 2 ^ 32) → Primed most s f

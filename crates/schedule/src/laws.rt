@@ -4,7 +4,7 @@ ghost use Rattle.schedule.specs.Obeyed.{Obeys, Says};
 ghost use Rattle.schedule.specs.Places.{Lies};
 ghost use Rattle.schedule.specs.Rows.{Rows-served};
 ghost use Rattle.schedule.specs.Spread.{Spreads};
-ghost use Rattle.schedule.specs.Waking.{Wakes, Wakes-by-step};
+ghost use Rattle.schedule.specs.Waking.{Primes, Settles, Wakes-by-step};
 
 // A command that fits the ledger is no fault, and the ledger, the cells and the bus are as told.
 pub fn commands_obeyed() -> u8
@@ -30,7 +30,8 @@ pub fn words_spread() -> u8
 
 // From any state, switched on, settled and primed in at most 700 clocks, a device is at rest.
 pub fn device_wakes() -> u8
-    ensures whole { λ _. ⌜ Wakes 700 ⌝ }
+    ensures settles { λ _. ⌜ Settles ⌝ }
+    ensures primes { λ _. ⌜ Primes 700 ⌝ }
     ensures steps { λ _. ⌜ Wakes-by-step ⌝ }
 {
     0
