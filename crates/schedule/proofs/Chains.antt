@@ -1,17 +1,24 @@
 -- Stretches of clocks, put together.
-use Prim.Native.Nat.{ℕ, _+_}
+use Prim.Native.Nat.{ℕ, zero, suc, _+_}
 use mathlib.Core.Path.{_≡_, refl, sym, ap, subst, _∙_}
 use mathlib.Core.List.{List, [], _∷_, _++_}
 use mathlib.Core.Bool.{Bool, true, false, cond}
 use native.Mathlib.Omega.{arith}
 use lib.Dec.{eqb}
-use lib.ListN.{length, length-append}
+use lib.ListN.{length, replicate, length-append}
 use Rattle.sheet.specs.declared.sheet.Sheet.{Sheet}
 use Rattle.rules.specs.declared.pins.Pins.{Pins}
 use Rattle.rules.specs.Meaning.{Meaning, step, out, run, outs}
 use Rattle.rules.proofs.Runs.{run-join, outs-join}
 use Rattle.schedule.specs.declared.ledger.Ledger.{Ledger}
 use Rattle.schedule.specs.Stretch.{heard, Stretch, Rests, Went}
+
+-- one more of the same clock
+pub run-more : (k : ℕ) (m : Meaning) (p : Pins) → run m (replicate (k + 1) p) ≡ step (run m (replicate k p)) p
+run-more zero m p = refl
+run-more (suc k) m p =
+    let e : suc k + 1 ≡ suc (k + 1) = omega arith in
+    ap (λ n. run m (replicate n p)) e ∙ run-more k (step m p) p
 
 pub heard-append : (os us : List (ℕ × ℕ)) → heard (os ++ us) ≡ heard os ++ heard us
 heard-append [] us = refl
