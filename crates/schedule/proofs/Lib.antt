@@ -1,0 +1,17 @@
+pub mod Times
+pub mod Lines
+pub mod Small
+pub mod Allows
+pub mod Keeps
+pub mod Obeying
+pub mod Decodes
+pub mod Chains
+pub mod Readings
+pub mod Singles
+pub mod Halves
+pub mod Filling
+pub mod Blocks
+pub mod Writings
+pub mod Lying
+pub mod Waking
+pub mod Budgeting

@@ -1,0 +1,13 @@
+pub mod Line
+pub mod Ledger
+pub mod Fit
+pub mod After
+pub mod Obeyed
+pub mod Stretch
+pub mod Reading
+pub mod Writing
+pub mod Spread
+pub mod Rows
+pub mod Places
+pub mod Waking
+pub mod Budget
