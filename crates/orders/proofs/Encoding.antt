@@ -65,3 +65,17 @@ encodes (Precharge both b) dq h w = record {
 encodes Refresh dq h w = record { is-command = refl; low = refl; word = w }
 encodes (LoadMode a) dq h w = record { is-command = ap LoadMode {x = a % 1024 % 1024} {y = a} (omega arith); low = refl; word = w }
 encodes (LoadSpecial a) dq h w = record { is-command = ap LoadSpecial {x = a % 1024 % 1024} {y = a} (omega arith); low = refl; word = w }
+
+pub data-is : (c : Command) (dq : ℕ) → pins-of c dq .dq ≡ dq
+data-is Inhibit dq = refl
+data-is Nop dq = refl
+data-is Stop dq = refl
+data-is (Column Read b a c) dq = refl
+data-is (Column Write b a c) dq = refl
+data-is (Column Block b a c) dq = refl
+data-is (Activate false b r) dq = refl
+data-is (Activate true b r) dq = refl
+data-is (Precharge both b) dq = refl
+data-is Refresh dq = refl
+data-is (LoadMode a) dq = refl
+data-is (LoadSpecial a) dq = refl
