@@ -1,1 +1,2 @@
 pub mod Gones
+pub mod Fits

@@ -1,5 +1,7 @@
 // A driver's command sequences over any device. They refuse nothing: each says what it asks.
 mod channel;
+mod rows;
 mod stepping;
+mod times;
 
 pub use channel::Channel;

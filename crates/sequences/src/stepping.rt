@@ -16,13 +16,6 @@ use orders::noted;
 use orders::pins_for;
 use rules::Command;
 
-// The later of two clocks.
-pub(crate) fn later(x: u64, y: u64) -> u64
-    ensures { λ r. ⌜ r ≡ max x y ⌝ }
-{
-    if x < y { y } else { x }
-}
-
 impl<D: Device> Channel<D> {
     // A command that reads nothing, at the next clock, with dq on the data pins.
     pub fn give(&mut self, command: Command, dq: u32)

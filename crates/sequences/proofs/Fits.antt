@@ -1,0 +1,104 @@
+-- The times at which commands are given fit them.
+use Prim.Native.Nat.{ℕ, _+_, _-_, _^_, _≤_, _<_, max}
+use mathlib.Core.Path.{_≡_, refl, sym, ap, _∙_, subst}
+use mathlib.Core.Bool.{Bool, true, false, cond, _||_}
+use lib.Dec.{leb, ltb}
+use native.Mathlib.Omega.{arith}
+use borrow.Author.Tests.{leb-false, ltb-false}
+use Rattle.std.specs.declared.option.Option.{Option}
+use Rattle.std.specs.declared.option.Option.the-variants.{Some, None}
+use Rattle.sheet.specs.declared.sheet.Sheet.{Sheet}
+use Rattle.rules.specs.declared.pins.BankName.{BankName}
+use Rattle.rules.specs.declared.pins.BankName.the-variants.{A, B}
+use Rattle.rules.specs.Pins.{other}
+use Rattle.schedule.specs.declared.ledger.Ledger.{Ledger}
+use Rattle.schedule.specs.declared.ledger.Track.{Track}
+use Rattle.schedule.specs.Ledger.{track, next}
+use Rattle.schedule.specs.Fit.{Spent, Closable, Openable, Refreshable}
+use Rattle.schedule.specs.After.{closed-track}
+use Rattle.schedule.specs.Budget.{Current, Recent, Tidied}
+use Rattle.sequences.specs.Times.{waited, close-time, close-both-time, refresh-time, open-time, with-closed, with-both-closed, with-opened, old, due-now, untidy}
+
+-- no time of a bank is ahead of the clock
+pub record Behind (t : ℕ) (h : Track) : Type 0 where
+  pub opened : h .opened ≤ t
+  pub closed : h .closed ≤ t
+  pub written : h .written ≤ t
+
+pub behind : (s : Sheet) (d : Ledger) (b : BankName) → Current s d → Behind (d .clock) (track d b)
+behind s d A q = record { opened = q .opened-a; closed = q .closed-a; written = q .written-a }
+behind s d B q = record { opened = q .opened-b; closed = q .closed-b; written = q .written-b }
+
+spent-any : (s : Sheet) (x : Option ℕ) (h : Track) (t : ℕ) → h .opened + s .ras ≤ t → h .written + s .wr ≤ t → Spent s x h t
+spent-any s None h t p q = tt
+spent-any s (Some r) h t p q = (p, q)
+
+never : {X : Type 0} → false ≡ true → X
+never e = let z : _≡_ {A = ℕ} 0 1 = ap (λ b. cond b 1 0) e in absurd (omega arith)
+
+pub closable-one : (s : Sheet) (d : Ledger) (b : BankName) → Closable s (waited (close-time s b d) d) false b
+closable-one s d A = record { free = omega arith; spent-a = λ _. spent-any s (d .a .row) (d .a) _ (omega arith) (omega arith); spent-b = λ e. never e }
+closable-one s d B = record { free = omega arith; spent-a = λ e. never e; spent-b = λ _. spent-any s (d .b .row) (d .b) _ (omega arith) (omega arith) }
+
+pub closable-both : (s : Sheet) (d : Ledger) → Closable s (waited (close-both-time s d) d) true A
+closable-both s d = record {
+  free = omega arith;
+  spent-a = λ _. spent-any s (d .a .row) (d .a) _ (omega arith) (omega arith);
+  spent-b = λ _. spent-any s (d .b .row) (d .b) _ (omega arith) (omega arith);
+}
+
+pub refreshable : (s : Sheet) (d : Ledger) → d .due ≤ d .clock → d .a .row ≡ None → d .b .row ≡ None → Refreshable s (waited (refresh-time s d) d)
+refreshable s d h a b = record {
+  due = omega arith;
+  free = omega arith;
+  a-closed = a;
+  b-closed = b;
+  a-rp = omega arith;
+  b-rp = omega arith;
+  a-rc = omega arith;
+  b-rc = omega arith;
+}
+
+pub openable : (s : Sheet) (d : Ledger) (b : BankName) (r : ℕ) → r < s .rows → track d b .row ≡ None → Openable s (waited (open-time s b d) d) b r
+openable s d A r h e = record { inside = h; row-closed = e; free = omega arith; rp = omega arith; rc = omega arith; rrd = omega arith }
+openable s d B r h e = record { inside = h; row-closed = e; free = omega arith; rp = omega arith; rc = omega arith; rrd = omega arith }
+
+shut : (t : ℕ) (h : Track) (x : Option ℕ) → h .row ≡ x → closed-track t x h .row ≡ None
+shut t h None e = e
+shut t h (Some r) e = refl
+
+-- after a PRE the bank is idle
+pub closed-one : (s : Sheet) (d : Ledger) (b : BankName) → track (with-closed s b d) b .row ≡ None
+closed-one s d A = shut _ (d .a) (d .a .row) refl
+closed-one s d B = shut _ (d .b) (d .b .row) refl
+
+pub closed-a : (s : Sheet) (d : Ledger) → with-both-closed s d .a .row ≡ None
+closed-a s d = shut _ (d .a) (d .a .row) refl
+
+pub closed-b : (s : Sheet) (d : Ledger) → with-both-closed s d .b .row ≡ None
+closed-b s d = shut _ (d .b) (d .b .row) refl
+
+-- after an ACTM the row is open
+pub opened-one : (s : Sheet) (d : Ledger) (b : BankName) (r : ℕ) → track (with-opened s b r d) b .row ≡ Some r
+opened-one s d A r = refl
+opened-one s d B r = refl
+
+recent-now : (x : Option ℕ) (o t : ℕ) → old x o t ≡ false → Recent 1024 x o t
+recent-now None o t e = tt
+recent-now (Some r) o t e = ltb-false (o + 1024) t e
+
+-- nothing is due and no row is old
+pub tidy-now : (d : Ledger) → untidy d ≡ false → Tidied d
+tidy-now d e = go (due-now d) (old (d .a .row) (d .a .opened) (d .clock)) (old (d .b .row) (d .b .opened) (d .clock)) refl refl refl e
+  where
+    go : (x y z : Bool) → due-now d ≡ x → old (d .a .row) (d .a .opened) (d .clock) ≡ y → old (d .b .row) (d .b .opened) (d .clock) ≡ z
+        → (x || (y || z)) ≡ false → Tidied d
+    go true y z p q r h = never (sym h)
+    go false true z p q r h = never (sym h)
+    go false false true p q r h = never (sym h)
+    go false false false p q r h = record {
+      passed = omega arith;
+      due = omega (arith, leb-false (d .due) (d .clock) p);
+      recent-a = recent-now (d .a .row) _ _ q;
+      recent-b = recent-now (d .b .row) _ _ r;
+    }
