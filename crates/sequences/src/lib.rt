@@ -2,6 +2,7 @@
 mod channel;
 mod rows;
 mod stepping;
+mod tidying;
 mod times;
 
 pub use channel::Channel;
