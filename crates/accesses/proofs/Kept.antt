@@ -11,11 +11,14 @@ use Rattle.std.proofs.shelf.Lists.{take-more-set}
 use Rattle.sheet.specs.declared.sheet.Sheet.{Sheet}
 use Rattle.rules.specs.declared.pins.Access.the-variants.{Read}
 use Rattle.rules.specs.declared.pins.BankName.{BankName}
+use Rattle.rules.specs.declared.pins.BankName.the-variants.{A, B}
 use Rattle.rules.specs.declared.pins.Command.the-variants.{Nop, Column}
 use Rattle.rules.specs.Meaning.{Meaning}
 use Rattle.schedule.specs.declared.ledger.Ledger.{Ledger}
 use Rattle.schedule.specs.Obeyed.{Brings}
-use Rattle.schedule.specs.Reading.{reading-command}
+use Rattle.schedule.specs.Reading.{Readable, reading-command}
+use Rattle.schedule.specs.Ledger.{Timely}
+use Rattle.schedule.specs.Fit.{Reachable}
 use Rattle.schedule.specs.Stretch.{Went, span, at-clock, with-bus}
 use Rattle.schedule.specs.Budget.{Current}
 use Rattle.schedule.proofs.Chains.{stretch-is}
@@ -78,3 +81,24 @@ gone-read {meaning = meaning} s s′ k us ws f r v e l w h =
         stretch = stretch-is _ _ _ _ _ _ (w .stretch) n h;
       };
     }
+
+-- a column that can be reached can be read
+pub readable-kept : (s : Sheet) (d : Ledger) (b : BankName) (c k : ℕ) → c + k ≤ 256 → Reachable s d b false → Timely d (d .clock + (k + s .cl)) → Readable s (kept-for s k d) b c k
+readable-kept s d A c k h r t = record {
+  inside = h;
+  row-open = r .row-open;
+  free = r .free;
+  rcd = r .rcd;
+  bwc = r .bwc;
+  bus = omega arith;
+  timely = record { counts = t .counts; fresh = t .fresh; young-a = t .young-a; young-b = t .young-b };
+}
+readable-kept s d B c k h r t = record {
+  inside = h;
+  row-open = r .row-open;
+  free = r .free;
+  rcd = r .rcd;
+  bwc = r .bwc;
+  bus = omega arith;
+  timely = record { counts = t .counts; fresh = t .fresh; young-a = t .young-a; young-b = t .young-b };
+}

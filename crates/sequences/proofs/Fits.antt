@@ -2,7 +2,7 @@
 use Prim.Native.Nat.{ℕ, _+_, _-_, _^_, _≤_, _<_, max}
 use mathlib.Core.Path.{_≡_, refl, sym, ap, _∙_, subst}
 use mathlib.Core.Bool.{Bool, true, false, cond, _||_}
-use lib.Dec.{leb, ltb}
+use lib.Dec.{leb, ltb, eqb}
 use native.Mathlib.Omega.{arith}
 use borrow.Author.Tests.{leb-false, ltb-false}
 use Rattle.std.specs.declared.option.Option.{Option}
@@ -10,14 +10,14 @@ use Rattle.std.specs.declared.option.Option.the-variants.{Some, None}
 use Rattle.sheet.specs.declared.sheet.Sheet.{Sheet}
 use Rattle.rules.specs.declared.pins.BankName.{BankName}
 use Rattle.rules.specs.declared.pins.BankName.the-variants.{A, B}
-use Rattle.rules.specs.Pins.{other}
+use Rattle.rules.specs.State.{is-some}
 use Rattle.schedule.specs.declared.ledger.Ledger.{Ledger}
 use Rattle.schedule.specs.declared.ledger.Track.{Track}
 use Rattle.schedule.specs.Ledger.{track, next}
-use Rattle.schedule.specs.Fit.{Spent, Closable, Openable, Refreshable}
+use Rattle.schedule.specs.Fit.{Reachable, Spent, Closable, Openable, Refreshable}
 use Rattle.schedule.specs.After.{closed-track}
 use Rattle.schedule.specs.Budget.{Current, Recent, Tidied}
-use Rattle.sequences.specs.Times.{waited, close-time, close-both-time, refresh-time, open-time, with-closed, with-both-closed, with-opened, old, due-now, untidy}
+use Rattle.sequences.specs.Times.{waited, close-time, close-both-time, refresh-time, open-time, column-time, with-closed, with-both-closed, with-opened, opened-from, old, due-now, untidy}
 
 -- no time of a bank is ahead of the clock
 pub record Behind (t : ℕ) (h : Track) : Type 0 where
@@ -102,3 +102,23 @@ tidy-now d e = go (due-now d) (old (d .a .row) (d .a .opened) (d .clock)) (old (
       recent-a = recent-now (d .a .row) _ _ q;
       recent-b = recent-now (d .b .row) _ _ r;
     }
+
+-- opening a row leaves the last refresh and load behind
+pub opened-free : (s : Sheet) (b : BankName) (r : ℕ) (x : Option ℕ) (d : Ledger) → opened-from s b r x d .free ≡ d .free
+opened-free s b r None d = refl
+opened-free s b r (Some o) d = go (eqb o r)
+  where
+    go : (z : Bool) → cond z d (with-opened s b r (with-closed s b d)) .free ≡ d .free
+    go true = refl
+    go false = refl
+
+open-some : (x : Option ℕ) (r : ℕ) → x ≡ Some r → is-some x ≡ true
+open-some x r e = ap is-some e
+
+pub reachable-then : (s : Sheet) (d : Ledger) (b : BankName) (r : ℕ) → track d b .row ≡ Some r → Reachable s (waited (column-time s b d) d) b false
+reachable-then s d A r e = record { low = refl; row-open = open-some _ r e; free = omega arith; rcd = omega arith; bwc = omega arith }
+reachable-then s d B r e = record { low = refl; row-open = open-some _ r e; free = omega arith; rcd = omega arith; bwc = omega arith }
+
+pub track-waited : (d : Ledger) (b : BankName) (t : ℕ) → track (waited t d) b ≡ track d b
+track-waited d A t = refl
+track-waited d B t = refl

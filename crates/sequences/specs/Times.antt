@@ -36,8 +36,8 @@ refresh-time s d = max (d .free) (max (max (d .a .closed) (d .b .closed) + s .rp
 abbrev pub open-time : Sheet → BankName → Ledger → ℕ
 open-time s b d = max (max (d .free) (track d b .closed + s .rp)) (max (track d b .opened + s .rc) (track d (other b) .opened + s .rrd))
 
-abbrev pub read-time : Sheet → BankName → Ledger → ℕ
-read-time s b d = max (d .free) (max (track d b .opened + s .rcd) (d .block + s .bwc))
+abbrev pub column-time : Sheet → BankName → Ledger → ℕ
+column-time s b d = max (d .free) (max (track d b .opened + s .rcd) (d .block + s .bwc))
 
 -- The ledger after each.
 abbrev pub with-closed : Sheet → BankName → Ledger → Ledger
@@ -56,6 +56,12 @@ with-opened s b r d = after s 0 (Activate true b r) (waited (open-time s b d) d)
 abbrev pub opened-from : Sheet → BankName → ℕ → Option ℕ → Ledger → Ledger
 opened-from s b r None d = with-opened s b r d
 opened-from s b r (Some x) d = cond (eqb x r) d (with-opened s b r (with-closed s b d))
+
+-- a column of row r of bank b can be reached at the next clock
+abbrev pub with-selected : Sheet → BankName → ℕ → Ledger → Ledger
+with-selected s b r d =
+    let o : Ledger = opened-from s b r (track d b .row) d in
+    waited (column-time s b o) o
 
 -- a refresh is due
 abbrev pub due-now : Ledger → Bool

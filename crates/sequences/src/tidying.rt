@@ -1,14 +1,17 @@
 // Sequences that look first.
 ghost use mathlib.Core.Path.{_≡_};
+ghost use mathlib.Core.Bool.{false};
 ghost use mathlib.Core.List.{[]};
 ghost use Prim.Native.Nat.{_+_, _<_, _≤_, _^_};
 ghost use Rattle.std.specs.declared.option.Option.the-variants.{Some, None};
 ghost use Rattle.schedule.specs.Ledger.{Timely, track};
+ghost use Rattle.schedule.specs.Fit.{Reachable};
 ghost use Rattle.schedule.specs.Budget.{Due-soon, Tidied};
 ghost use Rattle.sequences.specs.Gone.{Stands, Gone};
-ghost use Rattle.sequences.specs.Times.{opened-from, caught-up, tidied};
+ghost use Rattle.sequences.specs.Times.{opened-from, with-selected, caught-up, tidied};
 use crate::channel::Channel;
 use crate::times::bank_track;
+use crate::times::column_time;
 use crate::times::is_untidy;
 use device::Device;
 use rules::BankName;
@@ -32,6 +35,22 @@ impl<D: Device> Channel<D> {
                 self.activate(bank, row);
             }
         }
+    }
+
+    // Opens a row, and waits until its columns can be reached.
+    pub fn select(&mut self, bank: BankName, row: u16)
+        requires stands { ⌜ Stands (D·Device .reachable) (D·Device .meaning) (now self) ⌝ }
+        requires timely { ⌜ Timely (now self .ledger) (now self .ledger .clock + 145) ⌝ }
+        requires inside { ⌜ row < now self .sheet .rows ⌝ }
+        ensures ledger { λ _. ⌜ now (self .exit) .ledger ≡ with-selected (now (self .entry) .sheet) bank row (now (self .entry) .ledger) ⌝ }
+        ensures row { λ _. ⌜ track (now (self .exit) .ledger) bank .row ≡ Some row ⌝ }
+        ensures columns { λ _. ⌜ Reachable (now (self .entry) .sheet) (now (self .exit) .ledger) bank false ⌝ }
+        ensures few { λ _. ⌜ now (self .exit) .ledger .clock ≤ now (self .entry) .ledger .clock + 144 ⌝ }
+        ensures gone { λ _. ⌜ Gone (D·Device .reachable) (D·Device .meaning) (now (self .entry)) (now (self .exit)) [] (meaning (now (self .entry) .device) .cells) ⌝ }
+    {
+        self.open_row(bank, row);
+        let t = column_time(self.sheet, bank, self.ledger);
+        self.wait_until(t);
     }
 
     // A refresh, if one is due, with both banks idle.

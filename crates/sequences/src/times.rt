@@ -3,7 +3,7 @@ ghost use mathlib.Core.Path.{_≡_};
 ghost use Prim.Native.Nat.{_+_, _<_, _≤_, _^_, max};
 ghost use Rattle.schedule.specs.Ledger.{track};
 ghost use Rattle.schedule.specs.Budget.{Current};
-ghost use Rattle.sequences.specs.Times.{spent, close-time, close-both-time, refresh-time, open-time, read-time, old, untidy};
+ghost use Rattle.sequences.specs.Times.{spent, close-time, close-both-time, refresh-time, open-time, column-time, old, untidy};
 use rules::BankName;
 use schedule::Ledger;
 use schedule::Track;
@@ -82,12 +82,12 @@ pub(crate) fn open_time(sheet: Sheet, bank: BankName, ledger: Ledger) -> u64
     later(closed, opened)
 }
 
-// RD in the open row.
-pub(crate) fn read_time(sheet: Sheet, bank: BankName, ledger: Ledger) -> u64
+// RD, WR or BW in the open row.
+pub(crate) fn column_time(sheet: Sheet, bank: BankName, ledger: Ledger) -> u64
     requires current { ⌜ Current sheet ledger ⌝ }
     requires counted { ⌜ ledger .clock < 2 ^ 62 ⌝ }
-    ensures time { λ r. ⌜ r ≡ read-time sheet bank ledger ⌝ }
-    ensures soon { λ r. ⌜ r ≤ ledger .clock + 65 ⌝ }
+    ensures time { λ r. ⌜ r ≡ column-time sheet bank ledger ⌝ }
+    ensures soon { λ r. ⌜ r ≤ max (ledger .free) (ledger .clock + 15) ⌝ }
 {
     let own = bank_track(ledger, bank);
     let column = later(own.opened + sheet.rcd as u64, ledger.block + sheet.bwc as u64);

@@ -2,7 +2,7 @@ use mathlib.Core.Path.{_≡_, refl, sym, ap, _∙_}
 use Prim.Native.Nat.{_+_, max}
 use native.Mathlib.Omega.{arith}
 use Rattle.sequences.proofs.Fits.{behind}
-use Rattle.sequences.proofs.times.read_time.Needs as need
+use Rattle.sequences.proofs.times.column_time.Needs as need
 
 pub returns : need.returns
 returns c =
