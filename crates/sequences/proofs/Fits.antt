@@ -1,10 +1,10 @@
 -- The times at which commands are given fit them.
-use Prim.Native.Nat.{ℕ, _+_, _-_, _^_, _≤_, _<_, max}
+use Prim.Native.Nat.{ℕ, _+_, _-_, _^_, _≤_, _<_, min, max}
 use mathlib.Core.Path.{_≡_, refl, sym, ap, _∙_, subst}
 use mathlib.Core.Bool.{Bool, true, false, cond, _||_}
 use lib.Dec.{leb, ltb, eqb}
 use native.Mathlib.Omega.{arith}
-use borrow.Author.Tests.{leb-false, ltb-false}
+use borrow.Author.Tests.{le-leb, leb-false, ltb-true, ltb-false}
 use Rattle.std.specs.declared.option.Option.{Option}
 use Rattle.std.specs.declared.option.Option.the-variants.{Some, None}
 use Rattle.sheet.specs.declared.sheet.Sheet.{Sheet}
@@ -13,11 +13,11 @@ use Rattle.rules.specs.declared.pins.BankName.the-variants.{A, B}
 use Rattle.rules.specs.State.{is-some}
 use Rattle.schedule.specs.declared.ledger.Ledger.{Ledger}
 use Rattle.schedule.specs.declared.ledger.Track.{Track}
-use Rattle.schedule.specs.Ledger.{track, next}
+use Rattle.schedule.specs.Ledger.{track, Young, Timely}
 use Rattle.schedule.specs.Fit.{Reachable, Spent, Closable, Openable, Refreshable}
 use Rattle.schedule.specs.After.{closed-track}
-use Rattle.schedule.specs.Budget.{Current, Recent, Tidied}
-use Rattle.sequences.specs.Times.{waited, close-time, close-both-time, refresh-time, open-time, column-time, with-closed, with-both-closed, with-opened, opened-from, old, due-now, untidy}
+use Rattle.schedule.specs.Budget.{Current, Recent, Due-soon, Tidied}
+use Rattle.sequences.specs.Times.{waited, close-time, close-both-time, refresh-time, open-time, column-time, with-closed, with-both-closed, with-refresh, with-opened, opened-from, old, due-now, untidy, caught-up}
 
 -- no time of a bank is ahead of the clock
 pub record Behind (t : ℕ) (h : Track) : Type 0 where
@@ -122,3 +122,45 @@ reachable-then s d B r e = record { low = refl; row-open = open-some _ r e; free
 pub track-waited : (d : Ledger) (b : BankName) (t : ℕ) → track (waited t d) b ≡ track d b
 track-waited d A t = refl
 track-waited d B t = refl
+
+-- with both banks idle only the marks and the count press
+pub timely-idle : (d : Ledger) (t : ℕ) → d .a .row ≡ None → d .b .row ≡ None → t < 2 ^ 62 → t ≤ d .due + 1024 → Timely d t
+timely-idle d t a b h q = record {
+  counts = h;
+  fresh = q;
+  young-a = subst (λ x. Young x (d .a .opened) t) (sym a) tt;
+  young-b = subst (λ x. Young x (d .b .opened) t) (sym b) tt;
+}
+
+pub soon-idle : (d : Ledger) → d .a .row ≡ None → d .b .row ≡ None → d .clock ≤ d .due → Due-soon d
+soon-idle d a b h = record {
+  passed = omega arith;
+  due = omega arith;
+  recent-a = subst (λ x. Recent 1724 x (d .a .opened) (d .clock)) (sym a) tt;
+  recent-b = subst (λ x. Recent 1724 x (d .b .opened) (d .clock)) (sym b) tt;
+}
+
+-- catching up takes a clock where a refresh is due, and goes back in no case
+caught-later : (s : Sheet) (d : Ledger) → d .due ≤ d .clock → d .clock < caught-up s d .clock
+caught-later s d h = let e : due-now d ≡ true = le-leb (d .due) (d .clock) h in subst (λ z. d .clock < cond z (with-refresh s d) d .clock) (sym e) (omega arith)
+
+caught-least : (s : Sheet) (d : Ledger) → d .clock ≤ caught-up s d .clock
+caught-least s d = go (due-now d)
+  where
+    go : (z : Bool) → d .clock ≤ cond z (with-refresh s d) d .clock
+    go true = omega arith
+    go false = omega arith
+
+-- waiting for what is next, and catching up, goes on
+pub goes-on : (s : Sheet) (d : Ledger) (end : ℕ) → d .clock ≤ d .due → d .clock < end → d .clock < caught-up s (waited (min (d .due) end + 1) d) .clock
+goes-on s d end h q = go (ltb (d .clock) (d .due)) refl
+  where
+    go : (z : Bool) → ltb (d .clock) (d .due) ≡ z → d .clock < caught-up s (waited (min (d .due) end + 1) d) .clock
+    go true e =
+        let i : d .clock < d .due = ltb-true (d .clock) (d .due) e in
+        let l = caught-least s (waited (min (d .due) end + 1) d) in
+        omega arith
+    go false e =
+        let i : d .due ≤ d .clock = ltb-false (d .clock) (d .due) e in
+        let l = caught-later s (waited (min (d .due) end + 1) d) (omega arith) in
+        omega arith

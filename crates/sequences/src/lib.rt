@@ -4,5 +4,6 @@ mod rows;
 mod stepping;
 mod tidying;
 mod times;
+mod waiting;
 
 pub use channel::Channel;
