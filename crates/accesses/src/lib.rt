@@ -4,3 +4,4 @@ mod runs;
 
 pub use reading::read_row;
 pub use runs::fetch;
+pub use runs::words_soon;

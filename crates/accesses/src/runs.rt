@@ -6,6 +6,8 @@ ghost use Rattle.schedule.specs.Ledger.{Timely};
 ghost use Rattle.schedule.specs.Places.{bank-of, row-of};
 ghost use Rattle.schedule.specs.Stretch.{span};
 ghost use Rattle.sequences.specs.Gone.{Stands, Gone};
+ghost use Rattle.accesses.specs.Rows.{with-row-read, with-fetched};
+ghost use Rattle.accesses.specs.Speed.{Soon};
 use crate::reading::read_row;
 use device::Device;
 use rules::BankName;
@@ -34,6 +36,7 @@ fn read_at<D: Device>(channel: &mut Channel<D>, address: u32, buffer: &mut [u32]
     requires inside { ⌜ address < now channel .sheet .rows * 512 ⌝ }
     requires one_row { ⌜ address % 256 + length (now buffer) ≤ 256 ⌝ }
     requires timely { ⌜ Timely (now channel .ledger) (now channel .ledger .clock + (147 + length (now buffer))) ⌝ }
+    ensures ledger { λ _. ⌜ now (channel .exit) .ledger ≡ with-row-read (now (channel .entry) .sheet) address (length (now (buffer .entry))) (now (channel .entry) .ledger) ⌝ }
     ensures words { λ _. ⌜ now (buffer .exit) ≡ span (meaning (now (channel .entry) .device) .cells) address (length (now (buffer .entry))) ⌝ }
     ensures few { λ _. ⌜ now (channel .exit) .ledger .clock ≤ now (channel .entry) .ledger .clock + (147 + length (now (buffer .entry))) ⌝ }
     ensures gone { λ _. ⌜ Gone (D·Device .reachable) (D·Device .meaning) (now (channel .entry)) (now (channel .exit)) (now (buffer .exit)) (meaning (now (channel .entry) .device) .cells) ⌝ }
@@ -50,6 +53,7 @@ pub fn fetch<D: Device>(channel: &mut Channel<D>, address: u32, buffer: &mut [u3
     requires most { ⌜ length (now buffer) ≤ 256 ⌝ }
     requires inside { ⌜ address + length (now buffer) ≤ now channel .sheet .rows * 512 ⌝ }
     requires timely { ⌜ Timely (now channel .ledger) (now channel .ledger .clock + 550) ⌝ }
+    ensures ledger { λ _. ⌜ now (channel .exit) .ledger ≡ with-fetched (now (channel .entry) .sheet) address (length (now (buffer .entry))) (now (channel .entry) .ledger) ⌝ }
     ensures words { λ _. ⌜ now (buffer .exit) ≡ span (meaning (now (channel .entry) .device) .cells) address (length (now (buffer .entry))) ⌝ }
     ensures few { λ _. ⌜ now (channel .exit) .ledger .clock ≤ now (channel .entry) .ledger .clock + 550 ⌝ }
     ensures gone { λ _. ⌜ Gone (D·Device .reachable) (D·Device .meaning) (now (channel .entry)) (now (channel .exit)) (now (buffer .exit)) (meaning (now (channel .entry) .device) .cells) ⌝ }
@@ -61,4 +65,11 @@ pub fn fetch<D: Device>(channel: &mut Channel<D>, address: u32, buffer: &mut [u3
         read_at(channel, address, &mut buffer[..room]);
         read_at(channel, address + room as u32, &mut buffer[room..]);
     }
+}
+
+// How soon words of one row come.
+pub fn words_soon() -> u8
+    ensures { λ _. ⌜ Soon ⌝ }
+{
+    0
 }

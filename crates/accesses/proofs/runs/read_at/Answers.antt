@@ -13,7 +13,8 @@ use Rattle.schedule.specs.Places.{bank-of, row-of}
 use Rattle.schedule.proofs.Readings.{timely-before}
 use Rattle.schedule.proofs.Lying.{lies}
 use Rattle.sequences.proofs.Gones.{gone-then, gone-is, stands-of}
-use Rattle.accesses.specs.Rows.{kept-for}
+use Rattle.sequences.specs.Times.{with-selected}
+use Rattle.accesses.specs.Rows.{kept-for, with-read}
 use Rattle.accesses.proofs.Kept.{readable-kept}
 use Rattle.accesses.proofs.runs.read_at.Needs as need
 
@@ -60,6 +61,7 @@ returns g c =
         ∙ ((λ i. place (s .sheet .rows) (l .bank i) (l .row i) (l .column i)) ∙ lies .there (s .sheet .rows) x) in
     let n = ap (λ y. y .clock) (v .ledger) in
     record {
+      ledger = v .ledger ∙ ((λ i. with-read (u .gone .sheet i) k (u .ledger i)) ∙ (λ i. with-read (s .sheet) k (with-selected (s .sheet) (l .bank i) (l .row i) d)));
       words = v .words ∙ (λ i. span (u .gone .went .cells i) (e i) k);
       few = omega (arith, n, u .few, ap (λ y. y .cl) (u .gone .sheet));
       gone = gone-is f (gone-then _ (u .gone) (v .gone) refl) (u .gone .went .cells);
