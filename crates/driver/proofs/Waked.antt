@@ -18,7 +18,7 @@ primed-by s m =
     let a : List _ = replicate (s .rp - 1) nop in
     let b : List _ = replicate (s .rc - 1) nop in
     sym (run-join (step m pre-both) a (lmr (mode-code s) ∷ (nop ∷ (ref ∷ (b ++ (ref ∷ [])))))
-      ∙ run-join (step (step (step (run (step m pre-both) a) (lmr (mode-code s))) nop) ref) b (ref ∷ []))
+    ∙ run-join (step (step (step (run (step m pre-both) a) (lmr (mode-code s))) nop) ref) b (ref ∷ []))
 
 pub first-current : (s : Sheet) → Current s (primed s (s .pup + 1) (s .pup + (s .rp + s .rc + 3)))
 first-current s = record {

@@ -20,7 +20,7 @@ count-refusal clock = cond (ltb (2 ^ 62 - clock) 2000000) (Some Count) None
 abbrev pub refusal : ℕ → ℕ → ℕ → ℕ → Option Refusal
 refusal rows clock a n =
     cond (leb (rows * 512) a) (Some Address)
-      (cond (eqb n 0 || (ltb 256 n || ltb (rows * 512 - a) n)) (Some Length) (count-refusal clock))
+    (cond (eqb n 0 || (ltb 256 n || ltb (rows * 512 - a) n)) (Some Length) (count-refusal clock))
 
 -- and to a wait of n clocks
 abbrev pub wait-refusal : ℕ → ℕ → Option Refusal

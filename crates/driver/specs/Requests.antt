@@ -6,8 +6,12 @@ use lib.ListN.{length}
 use Rattle.std.specs.declared.option.Option.the-variants.{Some, None}
 use Rattle.std.specs.declared.result.Result.{Result}
 use Rattle.std.specs.declared.result.Result.the-variants.{Ok, Err}
+use Rattle.sheet.specs.declared.sheet.Sheet.{Sheet}
 use Rattle.rules.specs.Meaning.{Meaning}
+use Rattle.schedule.specs.declared.ledger.Ledger.{Ledger}
 use Rattle.schedule.specs.Stretch.{Stretch, span}
+use Rattle.sequences.specs.Times.{tidied}
+use Rattle.accesses.specs.Rows.{with-fetched}
 use Rattle.driver.specs.declared.refusal.Refusal.{Refusal}
 use Rattle.driver.specs.Refused.{refusal, wait-refusal}
 
@@ -36,6 +40,11 @@ pub record Wait-done (m m′ : Meaning) (least n : ℕ) : Type 0 where
 abbrev pub Read-answer : Meaning → Meaning → ℕ → List ℕ → List ℕ → Type 0 → Result ℕ Refusal → Type 0
 Read-answer m m′ a old new same (Ok n) = Read-done m m′ a old new n
 Read-answer m m′ a old new same (Err e) = (refusal (m .state .sheet .rows) (m .state .clock) a (length old) ≡ Some e) × (new ≡ old) × same
+
+-- The driver's ledger after a read: tidied, and then read in one row or in two, each command as soon as it may come.
+abbrev pub Read-moves : Sheet → ℕ → ℕ → Ledger → Ledger → Result ℕ Refusal → Type 0
+Read-moves s a n d d′ (Ok clocks) = d′ ≡ with-fetched s a n (tidied s d)
+Read-moves s a n d d′ (Err e) = d′ ≡ d
 
 abbrev pub Wait-answer : Meaning → Meaning → ℕ → Type 0 → Result ℕ Refusal → Type 0
 Wait-answer m m′ least same (Ok n) = Wait-done m m′ least n

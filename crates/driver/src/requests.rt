@@ -2,7 +2,7 @@ ghost use mathlib.Core.Path.{_≡_};
 ghost use lib.ListN.{length};
 ghost use Rattle.driver.specs.Refused.{refusal, wait-refusal};
 ghost use Rattle.driver.specs.States.{Rest};
-ghost use Rattle.driver.specs.Requests.{Read-answer, Wait-answer};
+ghost use Rattle.driver.specs.Requests.{Read-answer, Read-moves, Wait-answer};
 use crate::ready::Ready;
 use crate::refusal::Refusal;
 use accesses::fetch;
@@ -48,6 +48,7 @@ impl<D: Device> Ready<D> {
         requires { ⌜ Rest (D·Device .reachable) (D·Device .meaning) (now self) ⌝ }
         ensures rest { λ _. ⌜ Rest (D·Device .reachable) (D·Device .meaning) (now (self .exit)) ⌝ }
         ensures answer { λ r. ⌜ Read-answer (meaning (now (self .entry) .channel .device)) (meaning (now (self .exit) .channel .device)) address (now (buffer .entry)) (now (buffer .exit)) (now (self .exit) ≡ now (self .entry)) r ⌝ }
+        ensures ledger { λ r. ⌜ Read-moves (now (self .entry) .channel .sheet) address (length (now (buffer .entry))) (now (self .entry) .channel .ledger) (now (self .exit) .channel .ledger) r ⌝ }
     {
         let start = self.channel.ledger.clock;
         if let Some(refusal) = refused(self.channel.sheet, start, address, buffer.len()) {

@@ -37,8 +37,19 @@ fn wake<D: Device>(device: &mut D, sheet: Sheet)
     ensures reachable { λ _. ⌜ reachable (now (device .exit)) ⌝ }
     ensures after { λ _. ⌜ meaning (now (device .exit)) ≡ run (meaning (now (device .entry))) (priming-pins sheet) ⌝ }
 {
-    let close = pins_for(Command::Precharge { both: true, bank: BankName::A }, 0);
-    let load = pins_for(Command::LoadMode { code: (sheet.cl * 16) as u16 }, 0);
+    let close = pins_for(
+        Command::Precharge {
+            both: true,
+            bank: BankName::A,
+        },
+        0,
+    );
+    let load = pins_for(
+        Command::LoadMode {
+            code: (sheet.cl * 16) as u16,
+        },
+        0,
+    );
     let refresh = pins_for(Command::Refresh, 0);
     let _ = device.clock(close);
     pause(device, sheet.rp - 1);

@@ -86,7 +86,11 @@ fn noted_track(t: u64, command: Command, bank: BankName, track: Track) -> Track
                 next.written = t;
             }
         }
-        Command::Activate { masked: _, bank: named, row } => {
+        Command::Activate {
+            masked: _,
+            bank: named,
+            row,
+        } => {
             if named.is(bank) {
                 next.row = Some(row);
                 next.opened = t;

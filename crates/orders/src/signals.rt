@@ -88,7 +88,14 @@ pub fn pins_for(command: Command, dq: u32) -> Pins
             let dsf = if masked { high } else { low };
             selected(low, high, high, dsf, at_bank(bank, row % 512), dq)
         }
-        Command::Precharge { both, bank } => selected(low, high, low, low, at_bank(bank, at_column(both, 0)), dq),
+        Command::Precharge { both, bank } => selected(
+            low,
+            high,
+            low,
+            low,
+            at_bank(bank, at_column(both, 0)),
+            dq,
+        ),
         Command::Refresh => selected(low, low, high, low, 0, dq),
         Command::LoadMode { code } => selected(low, low, low, low, code % 1024, dq),
         Command::LoadSpecial { code } => selected(low, low, low, high, code % 1024, dq),

@@ -37,7 +37,14 @@ impl<D: Device> Channel<D> {
         ensures gone { λ _. ⌜ Gone (D·Device .reachable) (D·Device .meaning) (now (self .entry)) (now (self .exit)) [] (meaning (now (self .entry) .device) .cells) ⌝ }
     {
         let t = close_both_time(self.sheet, self.ledger);
-        self.give_at(t, Command::Precharge { both: true, bank: BankName::A }, 0);
+        self.give_at(
+            t,
+            Command::Precharge {
+                both: true,
+                bank: BankName::A,
+            },
+            0,
+        );
     }
 
     // REF, with both banks idle.

@@ -32,7 +32,10 @@ fn spent(sheet: Sheet, track: Track) -> u64
     requires written { ⌜ track .written < 2 ^ 62 ⌝ }
     ensures { λ r. ⌜ r ≡ spent sheet track ⌝ }
 {
-    later(track.opened + sheet.ras as u64, track.written + sheet.wr as u64)
+    later(
+        track.opened + sheet.ras as u64,
+        track.written + sheet.wr as u64,
+    )
 }
 
 // PRE of one bank.
@@ -78,7 +81,10 @@ pub(crate) fn open_time(sheet: Sheet, bank: BankName, ledger: Ledger) -> u64
     let own = bank_track(ledger, bank);
     let other = bank_track(ledger, bank.other());
     let closed = later(ledger.free, own.closed + sheet.rp as u64);
-    let opened = later(own.opened + sheet.rc as u64, other.opened + sheet.rrd as u64);
+    let opened = later(
+        own.opened + sheet.rc as u64,
+        other.opened + sheet.rrd as u64,
+    );
     later(closed, opened)
 }
 
@@ -90,7 +96,10 @@ pub(crate) fn column_time(sheet: Sheet, bank: BankName, ledger: Ledger) -> u64
     ensures soon { λ r. ⌜ r ≤ max (ledger .free) (ledger .clock + 15) ⌝ }
 {
     let own = bank_track(ledger, bank);
-    let column = later(own.opened + sheet.rcd as u64, ledger.block + sheet.bwc as u64);
+    let column = later(
+        own.opened + sheet.rcd as u64,
+        ledger.block + sheet.bwc as u64,
+    );
     later(ledger.free, column)
 }
 

@@ -42,7 +42,7 @@ loop-j-again g c =
     let p = c .reading-pins .result in
     let f = g .D·Device .meaning (s .device) .cells in
     let br : Brings p (reading-command b (c .args .column) k j) =
-        subst (λ x. Brings x (reading-command b (c .args .column) k j)) (sym (c .reading-pins .ensures)) (reading-brings b (c .args .column) k j (c .pre .readable .inside)) in
+    subst (λ x. Brings x (reading-command b (c .args .column) k j)) (sym (c .reading-pins .ensures)) (reading-brings b (c .args .column) k j (c .pre .readable .inside)) in
     let on = half-on (s .sheet) _ _ d f b (c .args .column) k j p (c .pre .readable) (c .pre .stands .rests .cells) (omega arith) (i .half) br in
     let t : s .ledger .clock + j + 1 ≡ s .ledger .clock + (j + 1) = omega arith in
     record {
@@ -68,7 +68,7 @@ returns g c =
     let all : take k (c .loop-j .buffer) ≡ c .loop-j .buffer = take-all _ _ (omega arith) in
     let ws : c .loop-j .buffer ≡ span f a k = sym all ∙ subst (λ y. take y (c .loop-j .buffer) ≡ span f a y) n (i .words) in
     let x = half-ends (s .sheet) (m (s .device)) (m (c .loop-j .channel .device)) d f b (c .args .column) k (c .pre .readable)
-        (subst (λ y. Half-read (s .sheet) d f b (c .args .column) k y (m (s .device)) (m (c .loop-j .channel .device))) e (i .half)) in
+    (subst (λ y. Half-read (s .sheet) d f b (c .args .column) k y (m (s .device)) (m (c .loop-j .channel .device))) e (i .half)) in
     let l : c .loop-j .channel .ledger ≡ with-read (s .sheet) k (s .ledger) = i .ledger ∙ ap (λ y. at-clock (s .ledger .clock + y) d) e in
     record {
       ledger = l;

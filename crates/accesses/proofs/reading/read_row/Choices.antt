@@ -18,5 +18,5 @@ Inv-loop-j g l =
       sheet : l .channel .sheet ≡ s .sheet;
       ledger : l .channel .ledger ≡ at-clock (s .ledger .clock + l .j) d;
       half : Half-read (s .sheet) d (m (s .device) .cells) (l .bank) (l .column) k (l .j) (m (s .device)) (m (l .channel .device));
-      words : take (l .j - s .sheet .cl) (l .buffer) ≡ span (m (s .device) .cells) (address (s .sheet) (s .ledger) (l .bank) (l .column)) (l .j - s .sheet .cl)
+      words : take (l .j - s .sheet .cl) (l .buffer) ≡ span (m (s .device) .cells) (address (s .sheet) (s .ledger) (l .bank) (l .column)) (l .j - s .sheet .cl);
     }

@@ -41,7 +41,7 @@ returns-else-buffer-room g c =
     let zs : List ℕ = us ++ drop r bs in
     let one : length (take r bs) ≡ r = omega (arith, length-take r bs) in
     let two : length (take (length zs - r) (drop r zs)) ≡ n - r =
-        omega (arith, length-take (length zs - r) (drop r zs), length-drop r zs, length-append us (drop r bs), length-drop r bs, long) in
+    omega (arith, length-take (length zs - r) (drop r zs), length-drop r zs, length-append us (drop r bs), length-drop r bs, long) in
     let k : r + (n - r) ≡ n = omega arith in
     let first : us ≡ span f x r = u .words ∙ ap (span f x) one in
     let second : vs ≡ span f (x + r) (n - r) = v .words ∙ (λ i. span (u .gone .went .cells i) (x + r) (two i)) in
@@ -49,7 +49,7 @@ returns-else-buffer-room g c =
     let d = s .ledger in
     let more : leb n r ≡ false = lt-leb n r p in
     let led : c .read-at-else-buffer-room-2 .last .channel .ledger ≡ with-row-read S (x + r) (n - r) (with-row-read S x r d) =
-        v .ledger ∙ ((λ i. with-row-read (u .gone .sheet i) (x + r) (two i) (u .ledger i)) ∙ ap (λ y. with-row-read S (x + r) (n - r) (with-row-read S x y d)) one) in
+    v .ledger ∙ ((λ i. with-row-read (u .gone .sheet i) (x + r) (two i) (u .ledger i)) ∙ ap (λ y. with-row-read S (x + r) (n - r) (with-row-read S x y d)) one) in
     record {
       ledger = led ∙ sym (ap (λ z. cond z (with-row-read S x n d) (with-row-read S (x + r) (n - r) (with-row-read S x r d))) more);
       words = all ∙ ((λ i. first i ++ second i) ∙ (sym (spreads .read-in-two f x r (n - r)) ∙ ap (span f x) k));

@@ -41,7 +41,7 @@ read-row-requires g c κs =
       stands = stands-of (u .gone);
       readable = subst (λ x. Readable x (kept-for x k (o .ledger)) (c .locate-bank .result .0) (c .locate-bank .result .2) k) (sym (u .gone .sheet))
           (readable-kept (s .sheet) (o .ledger) (c .locate-bank .result .0) (c .locate-bank .result .2) k (omega (arith, c .pre .one-row, c .locate-bank .ensures .column)) (u .columns)
-            (timely-before (o .ledger) (d .clock + (147 + k)) (o .ledger .clock + (k + s .sheet .cl)) (omega (arith, u .few)) (u .gone .keeps .timely (d .clock + (147 + k)) (omega (arith, c .pre .one-row)) (c .pre .timely))));
+          (timely-before (o .ledger) (d .clock + (147 + k)) (o .ledger .clock + (k + s .sheet .cl)) (omega (arith, u .few)) (u .gone .keeps .timely (d .clock + (147 + k)) (omega (arith, c .pre .one-row)) (c .pre .timely))));
     }
 
 pub returns : need.returns
@@ -57,8 +57,8 @@ returns g c =
     let l = c .locate-bank .ensures in
     let x = c .args .address in
     let e : address (o .sheet) (o .ledger) (c .locate-bank .result .0) (c .locate-bank .result .2) ≡ x =
-        (λ i. place (u .gone .sheet i .rows) (c .locate-bank .result .0) (row-number (u .row i)) (c .locate-bank .result .2))
-        ∙ ((λ i. place (s .sheet .rows) (l .bank i) (l .row i) (l .column i)) ∙ lies .there (s .sheet .rows) x) in
+    (λ i. place (u .gone .sheet i .rows) (c .locate-bank .result .0) (row-number (u .row i)) (c .locate-bank .result .2))
+    ∙ ((λ i. place (s .sheet .rows) (l .bank i) (l .row i) (l .column i)) ∙ lies .there (s .sheet .rows) x) in
     let n = ap (λ y. y .clock) (v .ledger) in
     record {
       ledger = v .ledger ∙ ((λ i. with-read (u .gone .sheet i) k (u .ledger i)) ∙ (λ i. with-read (s .sheet) k (with-selected (s .sheet) (l .bank i) (l .row i) d)));

@@ -6,6 +6,7 @@ use Rattle.std.specs.declared.option.Option.the-variants.{None}
 use Rattle.schedule.specs.Stretch.{span}
 use Rattle.schedule.proofs.Readings.{timely-before}
 use Rattle.sequences.proofs.Gones.{gone-then, gone-is, stands-of, all-budgets}
+use Rattle.accesses.specs.Rows.{with-fetched}
 use Rattle.driver.specs.Refused.{refusal}
 use Rattle.driver.proofs.Accepting.{Allowed, allowed}
 use Rattle.driver.proofs.Serving.{sheet-told, clock-told, served}
@@ -49,4 +50,5 @@ returns g c =
         words = v .words ∙ ap (λ f. span f a n) (u .gone .went .cells);
         few = omega (arith, u .few, v .few);
       };
+      ledger = v .ledger ∙ (λ i. with-fetched (u .gone .sheet i) a n (u .ledger i));
     }

@@ -83,7 +83,7 @@ loop-self-less g c =
     let w = c .wait-until .ensures in
     let v = c .catch-up-in-loop-self .ensures in
     let e : c .catch-up-in-loop-self .last .self .ledger ≡ caught-up (c .wait-until .last .self .sheet) (waited (min (d .due) (c .args .end) + 1) d) =
-        v .ledger ∙ ap (caught-up (c .wait-until .last .self .sheet)) (w .ledger ∙ ap (λ x. waited (x + 1) d) (c .min-next .ensures)) in
+    v .ledger ∙ ap (caught-up (c .wait-until .last .self .sheet)) (w .ledger ∙ ap (λ x. waited (x + 1) d) (c .min-next .ensures)) in
     let t = ap (λ x. x .clock) e in
     let l = goes-on (c .wait-until .last .self .sheet) d (c .args .end) (i .fresh) (c .loop-self-test .taken) in
     omega arith

@@ -11,7 +11,7 @@ Inv-loop-self g l = record {
   idle-a : l .self .ledger .a .row ≡ None;
   idle-b : l .self .ledger .b .row ≡ None;
   fresh : l .self .ledger .clock ≤ l .self .ledger .due;
-  few : l .self .ledger .clock ≤ max (l .entry .self .ledger .clock) (l .end + 65)
+  few : l .self .ledger .clock ≤ max (l .entry .self .ledger .clock) (l .end + 65);
 }
 
 abbrev pub μ-loop-self : given.MeasureT-loop-self

@@ -9,7 +9,7 @@ abbrev pub Inv-loop-self : given.InvT-loop-self
 Inv-loop-self g l = record {
   gone : Gone (g .D·Device .reachable) (g .D·Device .meaning) (l .entry .self) (l .self) [] (g .D·Device .meaning (l .entry .self .device) .cells);
   ledger : l .self .ledger ≡ at-clock (l .self .ledger .clock) (l .entry .self .ledger);
-  most : l .self .ledger .clock ≤ max (l .entry .self .ledger .clock) (l .t - 1)
+  most : l .self .ledger .clock ≤ max (l .entry .self .ledger .clock) (l .t - 1);
 }
 
 abbrev pub μ-loop-self : given.MeasureT-loop-self
