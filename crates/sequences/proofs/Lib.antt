@@ -1,0 +1,2 @@
+pub mod Gones
+pub mod Fits
