@@ -2,6 +2,7 @@ ghost use mathlib.Core.Path.{_≡_};
 use device::Device;
 
 // A driver whose device is in any state.
+#[derive(Drop)]
 pub struct Off<D: Device> {
     pub(crate) device: D,
 }
