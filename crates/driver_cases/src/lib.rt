@@ -1,7 +1,5 @@
 // Runs of the driver on a device.
 #[cfg(test)]
-mod lent;
-#[cfg(test)]
 mod reads;
 #[cfg(test)]
 mod runs;

@@ -1,6 +1,5 @@
-use crate::lent::Lent;
-use crate::lent::LentDevice;
 use device::Device;
+use device::LentDevice;
 use driver::Off;
 use driver::Refusal;
 
@@ -18,7 +17,7 @@ pub struct Clocks {
 
 // Settles and primes a device of four rows, and reads eight words in different places.
 pub fn clocks_of<D: Device>(device: &mut D, buffer: &mut [u32]) -> Clocks {
-    let mut ready = Off::new(Lent { device }).settle().prime();
+    let mut ready = Off::new(&mut *device).settle().prime();
     let clocks = Clocks {
         wait: ready.wait(100),
         from_idle: ready.read(1, buffer),
@@ -28,6 +27,6 @@ pub fn clocks_of<D: Device>(device: &mut D, buffer: &mut [u32]) -> Clocks {
         past: ready.read(2048, buffer),
         long: ready.read(2041, buffer),
     };
-    let Lent { device: _ } = ready.release();
+    let _ = ready.release();
     clocks
 }
