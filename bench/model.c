@@ -1,4 +1,5 @@
-/* A plain model of the pin rules, for comparing speed: docs/RULES.md in C, with words as cells.
+/* A plain model of the pin rules, for comparing speed: docs/RULES.md in C, with words as cells, or with bit planes where
+   PLANES is defined.
    usage: model ROUNDS < TRACE */
 #include <stdint.h>
 #include <stdio.h>
@@ -25,7 +26,11 @@ typedef struct {
     uint64_t marks[1024];
     uint32_t head;
     uint8_t drove, fault;
+#ifdef PLANES
+    uint8_t *cells;
+#else
     uint32_t *cells;
+#endif
 } device;
 
 static void switch_on(device *d) {
@@ -115,6 +120,43 @@ static int judge(const device *d, int c, uint32_t a, uint64_t t, int writes, uin
     return 0;
 }
 
+#ifdef PLANES
+/* bit column % 8 of the byte, and of each 64th behind it */
+static uint8_t *spot(device *d, int b, uint32_t row, uint32_t column) { return d->cells + 2048 * row + 32 * b + column / 8; }
+static uint32_t take(device *d, int b, uint32_t row, uint32_t column) {
+    const uint8_t *p = spot(d, b, row, column);
+    uint32_t word = 0;
+    for (int i = 0; i < 32; i++) word |= (uint32_t)(p[64 * i] >> (column & 7) & 1) << i;
+    return word;
+}
+static void paint(uint8_t *p, uint32_t columns, uint32_t reach, uint32_t colour) {
+    for (int i = 0; i < 32; i++) {
+        uint8_t m = reach >> i & 1 ? columns >> (i & 24) : 0;
+        p[64 * i] = (p[64 * i] & ~m) | ((colour >> i & 1 ? 255 : 0) & m);
+    }
+}
+static void store(device *d, int b, uint32_t row, uint32_t column, uint32_t reach, uint32_t word) {
+    paint(spot(d, b, row, column), 0x01010101u << (column & 7), reach, word);
+}
+static void block(device *d, int b, uint32_t row, uint32_t column, uint32_t columns, uint32_t reach) {
+    paint(spot(d, b, row, column), columns, reach, d->colour);
+}
+#else
+static uint32_t *spot(device *d, int b, uint32_t row) { return d->cells + b * d->s.rows * 256 + row * 256; }
+static uint32_t take(device *d, int b, uint32_t row, uint32_t column) { return spot(d, b, row)[column]; }
+static void store(device *d, int b, uint32_t row, uint32_t column, uint32_t reach, uint32_t word) {
+    uint32_t *cell = spot(d, b, row) + column;
+    *cell = (*cell & ~reach) | (word & reach);
+}
+static void block(device *d, int b, uint32_t row, uint32_t column, uint32_t columns, uint32_t reach) {
+    uint32_t *eight = spot(d, b, row) + (column & ~7u);
+    for (int i = 0; i < 8; i++) {
+        uint32_t m = ((columns >> i & 0x01010101u) * 255u) & reach;
+        eight[i] = (eight[i] & ~m) | (d->colour & m);
+    }
+}
+#endif
+
 static uint8_t do_clock(device *d, const pins *p, uint32_t *word) {
     *word = 0;
     if (d->fault) return 0;
@@ -139,16 +181,10 @@ static uint8_t do_clock(device *d, const pins *p, uint32_t *word) {
         column = (from & ~(length - 1)) + (bi ? (from & (length - 1)) ^ next : (from + next) & (length - 1));
     if (writes || takes) {
         bank *k = &d->banks[beat_bank];
-        uint32_t *cell = d->cells + beat_bank * d->s.rows * 256 + k->row * 256;
         uint32_t reach = wide(15 - dqm) & (k->masked ? d->mask : 0xffffffffu);
-        if (takes) taken = cell[column];
-        else if (c == BW) {
-            uint32_t *eight = cell + (column & ~7u);
-            for (int i = 0; i < 8; i++) {
-                uint32_t m = ((p->dq >> i & 0x01010101u) * 255u) & reach;
-                eight[i] = (eight[i] & ~m) | (d->colour & m);
-            }
-        } else cell[column] = (cell[column] & ~reach) | (p->dq & reach);
+        if (takes) taken = take(d, beat_bank, k->row, column);
+        else if (c == BW) block(d, beat_bank, k->row, column, p->dq, reach);
+        else store(d, beat_bank, k->row, column, reach, p->dq);
     }
     /* what moves */
     int was = ready(d);
@@ -186,6 +222,7 @@ static uint8_t do_clock(device *d, const pins *p, uint32_t *word) {
     return lanes;
 }
 
+#ifndef NO_MAIN
 int main(int argc, char **argv) {
     if (argc != 2) { fprintf(stderr, "usage: model ROUNDS < TRACE\n"); return 1; }
     uint32_t rounds = strtoul(argv[1], 0, 10);
@@ -219,3 +256,4 @@ int main(int argc, char **argv) {
     printf("%zu clocks, %u rounds, sum %u\n", count, rounds, total);
     return 0;
 }
+#endif
