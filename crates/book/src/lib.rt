@@ -1,4 +1,5 @@
 // Requests, the book that is fed with them, and the law of their lists.
+#![tactic(auto)]
 mod laws;
 mod refusal;
 mod request;

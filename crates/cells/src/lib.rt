@@ -1,4 +1,5 @@
 // The words of a device in lent memory, in two layouts: as words, or in bit planes.
+#![tactic(auto)]
 mod layout;
 mod masked;
 mod planes;

@@ -1,4 +1,5 @@
 // The command state of a device: one machine for the pin rules, without cells.
+#![tactic(auto)]
 mod command_state;
 mod moved;
 

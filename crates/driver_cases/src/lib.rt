@@ -1,4 +1,5 @@
 // Runs of the driver on a device.
+#![tactic(auto)]
 #[cfg(test)]
 mod reads;
 #[cfg(test)]

@@ -1,4 +1,5 @@
 // An interlock over any device, and the question whether two devices are alike.
+#![tactic(auto)]
 mod agreement;
 mod laws;
 mod layer;

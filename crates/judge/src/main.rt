@@ -1,4 +1,5 @@
 // Judges a pin trace that standard input holds.
+#![tactic(auto)]
 mod answers;
 
 use answers::answer;

@@ -1,4 +1,5 @@
 // Two banks in one table, and the tests by which a clock is judged.
+#![tactic(auto)]
 mod distances;
 mod places;
 mod table;

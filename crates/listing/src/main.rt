@@ -1,4 +1,5 @@
 // Lists a pin trace that standard input holds: its sheet, then its commands clock by clock.
+#![tactic(auto)]
 mod page;
 mod words;
 

@@ -1,4 +1,5 @@
 // A command as pins, and what a command leaves in a driver's ledger.
+#![tactic(auto)]
 mod noting;
 mod signals;
 

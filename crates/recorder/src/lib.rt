@@ -1,4 +1,5 @@
 // A device that keeps the pins that it was given.
+#![tactic(auto)]
 mod keeping;
 mod record;
 

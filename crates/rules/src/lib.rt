@@ -1,4 +1,5 @@
 // The pins, the commands that they bring, and the parts of a device's state; specs/ has the whole meaning of a device.
+#![tactic(auto)]
 mod bank;
 mod decoder;
 mod edges;

@@ -1,4 +1,5 @@
 // The laws that a driver's proof rests on, over the meaning of a device.
+#![tactic(auto)]
 mod laws;
 mod ledger;
 

@@ -1,4 +1,5 @@
 // The judge: what it says of any text, over plane memory and an output that a host lends.
+#![tactic(auto)]
 mod clocking;
 mod examined;
 mod host;
