@@ -1,5 +1,6 @@
 // The words of a device in lent memory, in two layouts: as words, or in bit planes.
 #![tactic(auto)]
+
 mod layout;
 mod masked;
 mod planes;

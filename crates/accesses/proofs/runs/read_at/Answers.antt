@@ -25,8 +25,8 @@ select-requires g c =
       inside = subst (λ x. x < s.sheet.rows) (sym c.locate-bank.ensures.row) (lies.inside s.sheet.rows c.args.address c.requires.inside);
     }
 
-pub read-row-requires : goal.read-row-requires
-read-row-requires g c =
+pub read_row-requires : goal.read_row-requires
+read_row-requires g c =
     let s = c.args.channel.now in
     let d = s.ledger in
     let k = length c.args.buffer.now in
@@ -46,7 +46,7 @@ returns g c =
     let d = s.ledger in
     let k = length c.args.buffer.now in
     let u = c.select.ensures in
-    let v = c.read-row.ensures in
+    let v = c.read_row.ensures in
     let o = c.select.new.self in
     let r = s.sheet.cl_range in
     let f = (g.D.Device.meaning s.device).cells in

@@ -7,8 +7,8 @@ pub loop-i-init : goal.loop-i-init
 unfolding brushed
 loop-i-init c = refl
 
-pub overflow-cast-bytes : goal.overflow-cast-bytes
-overflow-cast-bytes c = record {
+pub overflow_cast-bytes : goal.overflow_cast-bytes
+overflow_cast-bytes c = record {
   fits = brush_byte c.args.columns c.args.mask c.args.colour c.loop-i.i c.from-old.result c.merged.result (search rules)
       (c.merged.ensures ∙ simp (c.reached.ensures, c.inked.ensures));
 }

@@ -2,8 +2,8 @@ use Rattle.std.proofs.Common.{ℕ, ◌^◌, ◌≤◌, arith, pow_pos, pow_mono}
 use Rattle.drawing.proofs.Fills.{power_small}
 use Rattle.drawing.proofs.filling.columns.Goals as goal
 
-pub overflow-sub-result : goal.overflow-sub-result
-overflow-sub-result c =
+pub overflow_sub-result : goal.overflow_sub-result
+overflow_sub-result c =
     let lo = c.args.lo in
     let hi = c.args.hi in
     let a : 2 ^ lo ≤ 256 = power_small lo (omega arith) in

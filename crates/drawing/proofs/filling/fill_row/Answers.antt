@@ -14,8 +14,8 @@ use Rattle.drawing.specs.Drawn.{blocks}
 use Rattle.drawing.proofs.Fills.{until_next, blocks_clock, blocks_fit, blocks_more, blocks_within, filled_more}
 use Rattle.drawing.proofs.filling.fill_row.Goals as goal
 
-pub give-at-requires : goal.give-at-requires
-give-at-requires g c =
+pub give_at-requires : goal.give_at-requires
+give_at-requires g c =
     let s = c.args.channel.now in
     let S = s.sheet in
     let d = s.ledger in
@@ -49,10 +49,10 @@ loop-i-preserved g c =
     let i = c.loop-i.i in
     let v = c.loop-i.invariant in
     let o = c.loop-i.channel in
-    let u = c.give-at.ensures in
-    let lo = c.saturating-sub-low.result in
+    let u = c.give_at.ensures in
+    let lo = c.saturating_sub-low.result in
     let hi = c.min-high.result in
-    let p : lo ≡ c.args.column % 8 - 8 * i = c.saturating-sub-low.ensures in
+    let p : lo ≡ c.args.column % 8 - 8 * i = c.saturating_sub-low.ensures in
     let q : hi ≡ min (c.args.column % 8 + c.args.n - 8 * i) 8 = c.min-high.ensures in
     let at : ℕ = c.args.column - c.args.column % 8 + 8 * i in
     let cmd : Command = Column Block b false at in

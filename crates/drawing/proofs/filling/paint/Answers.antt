@@ -15,8 +15,8 @@ returns-else-n-room g c =
     let n = c.args.n in
     let r : ℕ = 256 - x % 256 in
     let f = (g.D.Device.meaning s.device).cells in
-    let u = c.fill-at-else-n-room.ensures in
-    let v = c.fill-at-else-n-room-2.ensures in
+    let u = c.fill_at-else-n-room.ensures in
+    let v = c.fill_at-else-n-room-2.ensures in
     let more : leb n r ≡ false = lt-leb n r c.if-n-room.false in
     let all : r + (n - r) ≡ n = omega arith in
     record {

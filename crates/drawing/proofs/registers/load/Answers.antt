@@ -7,12 +7,12 @@ use Rattle.drawing.specs.Registers.{code_of}
 use Rattle.drawing.proofs.Loads.{coded, loadable}
 use Rattle.drawing.proofs.registers.load.Goals as goal
 
-pub give-at-requires : goal.give-at-requires
-give-at-requires g c =
+pub give_at-requires : goal.give_at-requires
+give_at-requires g c =
     let s = c.args.channel.now in
     let d = s.ledger in
-    let t = c.load-time-t.result in
-    let e = c.load-time-t.ensures in
+    let t = c.load_time-t.result in
+    let e = c.load_time-t.ensures in
     let k = c.code-code.ensures in
     record {
       stands = c.requires.stands;

@@ -13,7 +13,7 @@ returns g c =
     let b = c.aim-bank.result.0 in
     let u = c.aim-bank.ensures in
     let o = c.aim-bank.new.channel.ledger in
-    let v = c.write-row.ensures in
+    let v = c.write_row.ensures in
     let at : address c.aim-bank.new.channel.sheet o b c.aim-bank.result.1 ≡ c.args.address =
     (λ i. address (u.gone.sheet i) o b c.aim-bank.result.1) ∙ u.place in
     let n = ap (λ x. x.clock) v.ledger ∙ writes_clock b k o in

@@ -7,14 +7,14 @@ loop-p-preserved g c = (
   c.clock-x.ensures.reachable,
   c.clock-y.ensures.reachable,
   ran_more _ _ _ _ _ _ c.args.pins.now c.loop-p.p-index _ c.loop-p.agreed _ c.clock-x.result c.clock-y.result c.loop-p-test.true
-      c.clock-x.ensures.after c.clock-y.ensures.after c.clock-x.ensures.answer c.clock-y.ensures.answer c.same-answer-agreed.ensures c.loop-p.invariant.2,
+      c.clock-x.ensures.after c.clock-y.ensures.after c.clock-x.ensures.answer c.clock-y.ensures.answer c.same_answer-agreed.ensures c.loop-p.invariant.2,
 )
 
 pub returns : goal.returns
 returns g c =
     let m = g.D.Device.meaning c.args.d.now in
     let n = g.E.Device.meaning c.args.e.now in
-    let w = ran_all m n _ _ _ _ c.args.pins.now c.loop-p.p-index c.loop-p.agreed c.switch_on.ensures.after c.switch-on-2.ensures.after c.loop-p-test.false c.loop-p.invariant.2 in
+    let w = ran_all m n _ _ _ _ c.args.pins.now c.loop-p.p-index c.loop-p.agreed c.switch_on.ensures.after c.switch_on-2.ensures.after c.loop-p-test.false c.loop-p.invariant.2 in
     record {
       first = sym w.first;
       first-reachable = c.loop-p.invariant.0;

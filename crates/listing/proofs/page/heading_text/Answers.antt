@@ -15,8 +15,8 @@ loop-i-preserved c =
     (omega (arith, named))
     (rw c.fields-fields.ensures c.loop-i-test.true)
     c.loop-i.invariant
-    (c.as-str.ensures.value ∙ c.in-ok-line.ensures ∙ ap (λ (t : List ℕ). field_text t (get_or c.fields-fields.result c.loop-i.i 0)) c.field-name.ensures)
-    c.in-ok-push-str.ensures.bytes
+    (c.as_str.ensures.value ∙ c.in_ok-line.ensures ∙ ap (λ (t : List ℕ). field_text t (get_or c.fields-fields.result c.loop-i.i 0)) c.field_name.ensures)
+    c.in_ok-push_str.ensures.bytes
 
 pub returns : goal.returns
 returns c =

@@ -6,7 +6,7 @@ use Rattle.listing.proofs.page.row_text.Goals as goal
 pub returns : goal.returns
 returns c =
     clock_made string_bytes c.clock_line.result c.args.clock _ _ _ _ _ _
-    (c.as-str.ensures.value ∙ c.in-ok-command.ensures ∙ ap (command_text c.args.latency) c.decode.ensures)
-    (c.as-str-2.ensures.value ∙ c.in-ok-dqm.ensures ∙ ap (hex 1) c.from.ensures)
-    (c.as-str-3.ensures.value ∙ c.in-ok-dq.ensures)
+    (c.as_str.ensures.value ∙ c.in_ok-command.ensures ∙ ap (command_text c.args.latency) c.decode.ensures)
+    (c.as_str-2.ensures.value ∙ c.in_ok-dqm.ensures ∙ ap (hex 1) c.from.ensures)
+    (c.as_str-3.ensures.value ∙ c.in_ok-dq.ensures)
     c.clock_line.ensures

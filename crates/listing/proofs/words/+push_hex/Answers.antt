@@ -4,5 +4,5 @@ use Rattle.listing.proofs.words.+push_hex.Goals as goal
 
 pub returns : goal.returns
 returns t c =
-    hex_more c.args.digits _ _ _ _ (omega arith) c.in-ok-push-hex.ensures
-    (rw (c.in-ok-push.ensures.ascii c.hex-digit.ensures.ascii, c.hex-digit.ensures.value) at c.in-ok-push.ensures.bytes)
+    hex_more c.args.digits _ _ _ _ (omega arith) c.in_ok-push_hex.ensures
+    (rw (c.in_ok-push.ensures.ascii c.hex_digit.ensures.ascii, c.hex_digit.ensures.value) at c.in_ok-push.ensures.bytes)

@@ -6,7 +6,7 @@ use Rattle.sequences.proofs.times.close_time.Goals as goal
 pub returns : goal.returns
 returns c =
     let q = behind c.args.sheet c.args.ledger c.args.bank c.requires.current in
-    let e = c.bank-track.ensures in
+    let e = c.bank_track.ensures in
     let o = ap (λ h. h.opened) e in
     let w = ap (λ h. h.written) e in
     record {

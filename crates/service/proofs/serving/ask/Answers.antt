@@ -18,7 +18,7 @@ returns-in-Read g c =
     let before : read a v.items ≡ ask_of c.args.request.now = sym (ap ask_of c.in-Read.is) in
     record {
       rest = c.read.ensures.rest;
-      answered = subst (λ q. Answered m m' q (read a after) c.read.result) (ap (read a) c.as-mut-slice.ensures.value ∙ before)
-          (subst (λ q. Answered m m' (read a c.as-mut-slice.result.now) q c.read.result) (ap (read a) (sym back)) c.read.ensures.answered);
+      answered = subst (λ q. Answered m m' q (read a after) c.read.result) (ap (read a) c.as_mut_slice.ensures.value ∙ before)
+          (subst (λ q. Answered m m' (read a c.as_mut_slice.result.now) q c.read.result) (ap (read a) (sym back)) c.read.ensures.answered);
       same = c.read.ensures.same;
     }

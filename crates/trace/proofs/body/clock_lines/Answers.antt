@@ -6,14 +6,14 @@ use Rattle.trace.proofs.body.clock_lines.Goals as goal
 
 pub loop-line-init : goal.loop-line-init
 loop-line-init c =
-    let size : chunks_size c.into-iter-line-iterator.result ≡ 21 = ap chunks_size c.into-iter-line-iterator.ensures.into-iter-gives ∙ c.chunks-line-items.ensures.size in
-    let rest : chunks_rest c.into-iter-line-iterator.result ≡ c.args.body.now = ap chunks_rest c.into-iter-line-iterator.ensures.into-iter-gives ∙ c.chunks-line-items.ensures.rest in
+    let size : chunks_size c.into_iter-line-iterator.result ≡ 21 = ap chunks_size c.into_iter-line-iterator.ensures.into_iter-gives ∙ c.chunks-line-items.ensures.size in
+    let rest : chunks_rest c.into_iter-line-iterator.result ≡ c.args.body.now = ap chunks_rest c.into_iter-line-iterator.ensures.into_iter-gives ∙ c.chunks-line-items.ensures.rest in
     (tt, omega arith, size, rw rest (omega arith), rw rest (counted_none (clocks_of c.args.body.now)))
 
-pub returns-then-is-none : goal.returns-then-is-none
-returns-then-is-none c = record {
+pub returns-then-is_none : goal.returns-then-is_none
+returns-then-is_none c = record {
   value =
-      sym (read_ill _ _ _ _ _ _ c.loop-line.invariant.2 c.in-Some.ensures.steps.1 c.clock_line.ensures c.if-is-none.ensures)
+      sym (read_ill _ _ _ _ _ _ c.loop-line.invariant.2 c.in-Some.ensures.steps.1 c.clock_line.ensures c.if-is_none.ensures)
       ∙ c.loop-line.invariant.4;
   listed = tt;
 }
@@ -25,7 +25,7 @@ loop-line-preserved c =
       omega arith,
       size,
       read_less _ _ _ _ _ _ c.loop-line.invariant.2 c.in-Some.ensures.steps.1 c.loop-line.invariant.3,
-      sym (read_more _ _ _ _ _ _ c.loop-line.invariant.2 c.in-Some.ensures.steps.1 c.clock_line.ensures c.if-is-none.ensures) ∙ c.loop-line.invariant.4,
+      sym (read_more _ _ _ _ _ _ c.loop-line.invariant.2 c.in-Some.ensures.steps.1 c.clock_line.ensures c.if-is_none.ensures) ∙ c.loop-line.invariant.4,
     )
 
 pub returns : goal.returns

@@ -8,17 +8,17 @@ pub loop-i-init : goal.loop-i-init
 unfolding sheet_line
 loop-i-init c = (after_none (sheet_line c.args.text.now), refl, omega arith)
 
-pub returns-in-err-value : goal.returns-in-err-value
-returns-in-err-value c = rw c.from-residual.ensures (record {
-  value = sym (fields_none c.args.text.now c.loop-i.fields c.loop-i.i c.loop-i.read _ _ (omega arith) c.end-before.ensures c.in-err-value.ensures.value) ∙ c.loop-i.invariant.0;
+pub returns-in_err-value : goal.returns-in_err-value
+returns-in_err-value c = rw c.from-residual.ensures (record {
+  value = sym (fields_none c.args.text.now c.loop-i.fields c.loop-i.i c.loop-i.read _ _ (omega arith) c.end_before.ensures c.in_err-value.ensures.value) ∙ c.loop-i.invariant.0;
   within = tt;
 })
 
 pub loop-i-preserved : goal.loop-i-preserved
 loop-i-preserved c = (
-  sym (fields_more c.args.text.now c.loop-i.fields c.loop-i.i c.loop-i.read _ _ _ _ (omega arith) c.end-before.ensures c.in-ok-value.ensures.value) ∙ c.loop-i.invariant.0,
+  sym (fields_more c.args.text.now c.loop-i.fields c.loop-i.i c.loop-i.read _ _ _ _ (omega arith) c.end_before.ensures c.in_ok-value.ensures.value) ∙ c.loop-i.invariant.0,
   simp length-set c.loop-i.invariant.1,
-  omega (arith, simp (length-take, length-drop) at c.in-ok-value.ensures.within),
+  omega (arith, simp (length-take, length-drop) at c.in_ok-value.ensures.within),
 )
 
 pub returns : goal.returns

@@ -10,7 +10,7 @@ loop-k-init c = (c.requires.fit, refl, wrote_none _ 0, omega arith, refl, refl, 
 
 pub unreachable-requires : goal.unreachable-requires
 unreachable-requires c =
-    nth_none (clocks c.args.body.now) c.loop-k.k (omega arith) (c.in-default.ensures.listed _ c.requires.read)
+    nth_none (clocks c.args.body.now) c.loop-k.k (omega arith) (c.in_default.ensures.listed _ c.requires.read)
 
 pub loop-k-preserved : goal.loop-k-preserved
 loop-k-preserved c =
@@ -20,8 +20,8 @@ loop-k-preserved c =
     let p = c.in-Some.ensures.listed _ c.requires.read in (
       t.reachable,
       run_next _ _ _ ps c.loop-k.k c.in-Some.pins p i.1 t.after,
-      wrote_as (text_next _ _ ps c.loop-k.k c.in-Some.pins c.tick-lanes.result p i.1 t.answer) (wrote_both i.2 c.put-clock-end.ensures.wrote),
-      omega (arith, i.3, c.put-clock-end.ensures.bound),
+      wrote_as (text_next _ _ ps c.loop-k.k c.in-Some.pins c.tick-lanes.result p i.1 t.answer) (wrote_both i.2 c.put_clock-end.ensures.wrote),
+      omega (arith, i.3, c.put_clock-end.ensures.bound),
       t.lender ∙ i.4,
       subst (λ (x : Sheet). drop (2048 * x.rows) c.tick-lanes.new.self.cells.now ≡ drop (2048 * x.rows) c.loop-k.device.cells.now) i.7 t.rest ∙ i.5,
       t.length ∙ i.6,

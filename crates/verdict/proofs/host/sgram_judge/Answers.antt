@@ -11,7 +11,7 @@ pub returns-in-Err : goal.returns-in-Err
 returns-in-Err c =
     let e = c.in-Err.ensures in
     record {
-      answer = plain_err _ _ _ _ e.answer c.number.ensures (value_is _ _ _ c.unwrap-or.ensures c.place.ensures);
+      answer = plain_err _ _ _ _ e.answer c.number.ensures (value_is _ _ _ c.unwrap_or.ensures c.place.ensures);
       planes = e.planes;
       out = e.out;
     }

@@ -10,10 +10,10 @@ use Rattle.verdict.proofs.Blank.{fresh_blank}
 use Rattle.verdict.proofs.Judgements.{spoken}
 use Rattle.verdict.proofs.judgement.judge.Goals as goal
 
-pub run-lines-requires : goal.run-lines-requires
-run-lines-requires c =
-    let f = c.in-ok-sheet.ensures in
-    let t = c.in-ok-sheet.field-0 in
+pub run_lines-requires : goal.run_lines-requires
+run_lines-requires c =
+    let f = c.in_ok-sheet.ensures in
+    let t = c.in_ok-sheet.field-0 in
     let rest = take_rest c.args.text.now t.body in
     record {
       fit = omega (arith, f.rows);
@@ -25,13 +25,13 @@ run-lines-requires c =
 
 pub returns : goal.returns
 returns c =
-    let f = c.in-ok-sheet.ensures in
-    let t = c.in-ok-sheet.field-0 in
+    let f = c.in_ok-sheet.ensures in
+    let t = c.in_ok-sheet.field-0 in
     let x = t.sheet in
     let text = c.args.text.now in
     let blank = fresh_blank x c.args.planes.now c.clear.new.planes f.rows c.clear.ensures in
     let ps = ap clocks (take_rest text t.body) in
-    let went = c.run-lines.ensures in
+    let went = c.run_lines.ensures in
     let w = wrote_as (λ i. page (blank.0 i) (ps i)) went.wrote in
     let s = spoken text _ _ t c.args.planes.now _ c.args.out.now _ _ f w
     (went.planes ∙ (λ i. picture x.rows (run (blank.0 i) (ps i)).cells ++ blank.1 i)) in

@@ -6,4 +6,4 @@ use Rattle.verdict.proofs.Widths.{two_digits, four_digits, five_digits, rule_sma
 use Rattle.verdict.proofs.page.put_end.Goals as goal
 
 pub returns : goal.returns
-returns c = wrote_both c.put-bank-end.ensures.wrote (wrote_both c.put-bank-end-2.ensures.wrote c.put-verdict.ensures)
+returns c = wrote_both c.put_bank-end.ensures.wrote (wrote_both c.put_bank-end-2.ensures.wrote c.put_verdict.ensures)

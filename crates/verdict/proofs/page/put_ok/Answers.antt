@@ -5,11 +5,11 @@ use Rattle.verdict.proofs.Joins.{wrote_none, wrote_both, wrote_as, length_hex}
 use Rattle.verdict.proofs.Widths.{two_digits, four_digits, five_digits, rule_small}
 use Rattle.verdict.proofs.page.put_ok.Goals as goal
 
-pub put-decimal-end-requires : goal.put-decimal-end-requires
-put-decimal-end-requires c = omega (arith, four_digits c.args.clocks c.requires.small)
+pub put_decimal-end-requires : goal.put_decimal-end-requires
+put_decimal-end-requires c = omega (arith, four_digits c.args.clocks c.requires.small)
 
-pub put-byte-requires : goal.put-byte-requires
-put-byte-requires c = omega (arith, four_digits c.args.clocks c.requires.small)
+pub put_byte-requires : goal.put_byte-requires
+put_byte-requires c = omega (arith, four_digits c.args.clocks c.requires.small)
 
 pub returns : goal.returns
-returns c = wrote_both c.put-bytes-end.ensures (wrote_both c.put-decimal-end.ensures c.put-byte.ensures)
+returns c = wrote_both c.put_bytes-end.ensures (wrote_both c.put_decimal-end.ensures c.put_byte.ensures)

@@ -5,20 +5,20 @@ use Rattle.verdict.proofs.Joins.{wrote_none, wrote_both, wrote_as, length_hex}
 use Rattle.verdict.proofs.Widths.{two_digits, four_digits, five_digits, rule_small}
 use Rattle.verdict.proofs.page.put_row.Goals as goal
 
-pub put-decimal-end-requires : goal.put-decimal-end-requires
-put-decimal-end-requires c = omega (arith, five_digits c.args.row (search rules))
+pub put_decimal-end-requires : goal.put_decimal-end-requires
+put_decimal-end-requires c = omega (arith, five_digits c.args.row (search rules))
 
-pub put-byte-end-requires : goal.put-byte-end-requires
-put-byte-end-requires c = omega (arith, five_digits c.args.row (search rules))
+pub put_byte-end-requires : goal.put_byte-end-requires
+put_byte-end-requires c = omega (arith, five_digits c.args.row (search rules))
 
-pub put-bytes-end-requires-2 : goal.put-bytes-end-requires-2
-put-bytes-end-requires-2 c = omega (arith, five_digits c.args.row (search rules))
+pub put_bytes-end-requires-2 : goal.put_bytes-end-requires-2
+put_bytes-end-requires-2 c = omega (arith, five_digits c.args.row (search rules))
 
-pub put-byte-requires : goal.put-byte-requires
-put-byte-requires c = omega (arith, five_digits c.args.row (search rules))
+pub put_byte-requires : goal.put_byte-requires
+put_byte-requires c = omega (arith, five_digits c.args.row (search rules))
 
 pub returns : goal.returns
 returns c = record {
-  wrote = rw (sym c.kind-name.ensures.value) (wrote_both c.put-bytes-end.ensures (wrote_both c.put-decimal-end.ensures (wrote_both c.put-byte-end.ensures (wrote_both c.put-bytes-end-2.ensures c.put-byte.ensures))));
+  wrote = rw (sym c.kind_name.ensures.value) (wrote_both c.put_bytes-end.ensures (wrote_both c.put_decimal-end.ensures (wrote_both c.put_byte-end.ensures (wrote_both c.put_bytes-end-2.ensures c.put_byte.ensures))));
   bound = omega (arith, five_digits c.args.row (search rules));
 }

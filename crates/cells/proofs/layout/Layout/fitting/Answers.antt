@@ -6,7 +6,7 @@ pub returns : goal.returns
 returns g c =
     let row : ℕ = g.Self.Layout.row in
     let n : ℕ = length c.args.cells.now in
-    let e : c.min.result ≡ min c.args.rows (n / row) = c.min.ensures ∙ ap (λ (k : ℕ). min c.args.rows (n / k)) c.per-row.ensures in
+    let e : c.min.result ≡ min c.args.rows (n / row) = c.min.ensures ∙ ap (λ (k : ℕ). min c.args.rows (n / k)) c.per_row.ensures in
     record {
       most = e;
       fit = rows_fit row c.args.rows n _ e;

@@ -18,6 +18,6 @@ returns g c =
       memory = refl;
       lender = refl;
       state = state;
-      words = c.new-2.ensures ∙ ap (λ (n : ℕ). replicate n 0) (c.of-latency.ensures ∙ ap (λ (x : Sheet). x.cl) c.lowered-sheet.ensures);
+      words = c.new-2.ensures ∙ ap (λ (n : ℕ). replicate n 0) (c.of_latency.ensures ∙ ap (λ (x : Sheet). x.cl) c.lowered-sheet.ensures);
       fit = subst (λ (r : ℕ). g.L.Layout.row * r ≤ size) (sym rows) (fits_min g.L.Layout.row s.rows size);
     }

@@ -22,11 +22,11 @@ returns-in-Ok g c =
     let memory' = c.perform-taken.new.cells in
     let w = went g.L.Layout.row words g.met.L.Layout.some memory memory'
     (state_of self.control) (state_of c.clock.new.self) (line self.words) (line c.push.new.self) c.args.pins c.in-Ok.field-0
-    c.front.result c.lane-bits.result
+    c.front.result c.lane_bits.result
     c.requires c.clock.ensures.after c.in-Ok.ensures.answer c.perform-taken.ensures.length
     (subst (λ (n : ℕ). words n memory' ≡ done work (words n memory)) c.rows-rows.ensures c.perform-taken.ensures.words)
     (c.push.ensures ∙ ap (passed (line self.words)) (c.perform-taken.ensures.taken ∙ ap (λ (n : ℕ). taken work (words n memory)) c.rows-rows.ensures))
-    (c.front.ensures 0) c.lane-bits.ensures in
+    (c.front.ensures 0) c.lane_bits.ensures in
     record {
       reachable = w.0;
       after = w.1;

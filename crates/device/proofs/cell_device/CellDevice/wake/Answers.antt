@@ -8,6 +8,6 @@ pub returns : goal.returns
 returns g c =
     let self = c.args.self.now in
     let w = woken g.L.Layout.row g.L.Layout.words g.met.L.Layout.some self.cells.now (state_of self.control) (state_of c.switch_on.new.self) (line self.words) (line c.new-self.result)
-    c.fitting-sheet-sheet.result c.fitting-sheet-sheet.ensures c.switch_on.ensures
-    (c.new-self.ensures ∙ ap (λ (k : ℕ). replicate k 0) c.of-latency.ensures) in
+    c.fitting_sheet-sheet.result c.fitting_sheet-sheet.ensures c.switch_on.ensures
+    (c.new-self.ensures ∙ ap (λ (k : ℕ). replicate k 0) c.of_latency.ensures) in
     record { reachable = w.0; after = w.1; lender = refl; memory = refl }

@@ -12,7 +12,7 @@ pub fetch-requires : goal.fetch-requires
 fetch-requires g c =
     let s = c.args.self.now.channel in
     let n = length c.args.buffer.now in
-    let q : Allowed s.sheet.rows s.ledger.clock c.args.address n = allowed _ _ _ _ (sym c.refused.ensures ∙ c.in-default.is) in
+    let q : Allowed s.sheet.rows s.ledger.clock c.args.address n = allowed _ _ _ _ (sym c.refused.ensures ∙ c.in_default.is) in
     let u = c.tidy.ensures in
     let d = c.tidy.new.self.ledger in
     record {
@@ -28,7 +28,7 @@ returns g c =
     let s = c.args.self.now.channel in
     let n = length c.args.buffer.now in
     let a = c.args.address in
-    let z : refusal s.sheet.rows s.ledger.clock a n ≡ None = sym c.refused.ensures ∙ c.in-default.is in
+    let z : refusal s.sheet.rows s.ledger.clock a n ≡ None = sym c.refused.ensures ∙ c.in_default.is in
     let u = c.tidy.ensures in
     let v = c.fetch.ensures in
     let d = c.tidy.new.self.ledger in

@@ -20,7 +20,7 @@ returns g c =
     let x : m' ≡ run (settled s f) (priming_pins s) = c.wake.ensures.after ∙ (λ i. run (c.requires.means i) (priming_pins (e i))) in
     let p = primes 700 (omega arith) s f c.requires.words in
     let d : Ledger = primed s (s.pup + 1) (s.pup + n) in
-    let l : c.first-ledger.result ≡ d = c.first-ledger.ensures ∙ (λ i. primed (e i) ((e i).pup + 1) ((e i).pup + ((e i).rp + (e i).rc + 3))) in
+    let l : c.first_ledger.result ≡ d = c.first_ledger.ensures ∙ (λ i. primed (e i) ((e i).pup + 1) ((e i).pup + ((e i).rp + (e i).rc + 3))) in
     record {
       stretch = subst (λ z. Stretch z m' n []) (sym c.requires.means) (subst (λ z. Stretch (settled s f) z n []) (sym x) p.stretch);
       few = p.soon;
@@ -29,8 +29,8 @@ returns g c =
       rest = record {
         stands = record {
           valid = c.wake.ensures.reachable;
-          rests = subst (λ z. Rests z m' c.first-ledger.result) (sym e) (subst (λ z. Rests s m' z) (sym l) (subst (λ z. Rests s z d) (sym x) p.rests));
-          current = subst (λ z. Current z c.first-ledger.result) (sym e) (subst (λ z. Current s z) (sym l) (first_current s));
+          rests = subst (λ z. Rests z m' c.first_ledger.result) (sym e) (subst (λ z. Rests s m' z) (sym l) (subst (λ z. Rests s z d) (sym x) p.rests));
+          current = subst (λ z. Current z c.first_ledger.result) (sym e) (subst (λ z. Current s z) (sym l) (first_current s));
         };
         soon = subst (λ z. DueSoon z) (sym l) (first_soon s);
       };

@@ -17,7 +17,7 @@ use Rattle.full_driver.proofs.ready.Ready.fill.Goals as goal
 pub load-requires : goal.load-requires
 load-requires g c =
     let s = c.args.self.now.channel in
-    let q : Allowed s.sheet.rows s.ledger.clock c.args.address c.args.length = allowed _ _ _ _ (sym c.refused.ensures ∙ c.in-default.is) in
+    let q : Allowed s.sheet.rows s.ledger.clock c.args.address c.args.length = allowed _ _ _ _ (sym c.refused.ensures ∙ c.in_default.is) in
     let u = c.tidy.ensures in
     let d = c.tidy.new.self.ledger in
     record {
@@ -28,7 +28,7 @@ load-requires g c =
 pub load-requires-2 : goal.load-requires-2
 load-requires-2 g c =
     let s = c.args.self.now.channel in
-    let q : Allowed s.sheet.rows s.ledger.clock c.args.address c.args.length = allowed _ _ _ _ (sym c.refused.ensures ∙ c.in-default.is) in
+    let q : Allowed s.sheet.rows s.ledger.clock c.args.address c.args.length = allowed _ _ _ _ (sym c.refused.ensures ∙ c.in_default.is) in
     let u = c.tidy.ensures in
     let d = c.tidy.new.self.ledger in
     let l = c.load.ensures in
@@ -44,7 +44,7 @@ pub paint-requires : goal.paint-requires
 paint-requires g c =
     let s = c.args.self.now.channel in
     let n = c.args.length in
-    let q : Allowed s.sheet.rows s.ledger.clock c.args.address n = allowed _ _ _ _ (sym c.refused.ensures ∙ c.in-default.is) in
+    let q : Allowed s.sheet.rows s.ledger.clock c.args.address n = allowed _ _ _ _ (sym c.refused.ensures ∙ c.in_default.is) in
     let u = c.tidy.ensures in
     let d = c.tidy.new.self.ledger in
     let l = c.load.ensures in
@@ -68,7 +68,7 @@ returns g c =
     let a = c.args.address in
     let p = c.args.pen.now in
     let f = (g.D.Device.meaning s.device).cells in
-    let z : words_refusal s.sheet.rows s.ledger.clock a n ≡ None = sym c.refused.ensures ∙ c.in-default.is in
+    let z : words_refusal s.sheet.rows s.ledger.clock a n ≡ None = sym c.refused.ensures ∙ c.in_default.is in
     let u = c.tidy.ensures in
     let l = c.load.ensures in
     let k = c.load-2.ensures in

@@ -17,7 +17,7 @@ use Rattle.full_driver.proofs.ready.Ready.write.Goals as goal
 pub load-requires : goal.load-requires
 load-requires g c =
     let s = c.args.self.now.channel in
-    let q : Allowed s.sheet.rows s.ledger.clock c.args.address (length c.args.words.now) = allowed _ _ _ _ (sym c.refused.ensures ∙ c.in-default.is) in
+    let q : Allowed s.sheet.rows s.ledger.clock c.args.address (length c.args.words.now) = allowed _ _ _ _ (sym c.refused.ensures ∙ c.in_default.is) in
     let u = c.tidy.ensures in
     let d = c.tidy.new.self.ledger in
     record {
@@ -29,7 +29,7 @@ pub store-requires : goal.store-requires
 store-requires g c =
     let s = c.args.self.now.channel in
     let n = length c.args.words.now in
-    let q : Allowed s.sheet.rows s.ledger.clock c.args.address n = allowed _ _ _ _ (sym c.refused.ensures ∙ c.in-default.is) in
+    let q : Allowed s.sheet.rows s.ledger.clock c.args.address n = allowed _ _ _ _ (sym c.refused.ensures ∙ c.in_default.is) in
     let u = c.tidy.ensures in
     let d = c.tidy.new.self.ledger in
     let l = c.load.ensures in
@@ -52,7 +52,7 @@ returns g c =
     let a = c.args.address in
     let p = c.args.pen.now in
     let f = (g.D.Device.meaning s.device).cells in
-    let z : words_refusal s.sheet.rows s.ledger.clock a n ≡ None = sym c.refused.ensures ∙ c.in-default.is in
+    let z : words_refusal s.sheet.rows s.ledger.clock a n ≡ None = sym c.refused.ensures ∙ c.in_default.is in
     let u = c.tidy.ensures in
     let l = c.load.ensures in
     let v = c.store.ensures in

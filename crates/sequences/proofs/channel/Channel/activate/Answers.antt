@@ -9,16 +9,16 @@ use Rattle.sequences.specs.Times.{waited}
 use Rattle.sequences.proofs.Fits.{openable}
 use Rattle.sequences.proofs.channel.Channel.activate.Goals as goal
 
-pub give-at-requires : goal.give-at-requires
-give-at-requires g c =
+pub give_at-requires : goal.give_at-requires
+give_at-requires g c =
     let s = c.args.self.now in
     let d = s.ledger in
-    let t = c.open-time-t.result in
-    let h = c.open-time-t.ensures.soon in
+    let t = c.open_time-t.result in
+    let h = c.open_time-t.ensures.soon in
     record {
       stands = c.requires.stands;
       timely = timely_before d (d.clock + 65) (max (d.clock + 1) t) (omega arith) c.requires.timely;
-      fit = subst (λ x. Fit s.sheet (silent s.sheet.cl) (waited x d) (Activate true c.args.bank c.args.row)) (sym c.open-time-t.ensures.time) (refl, openable s.sheet d c.args.bank c.args.row c.requires.inside c.requires.idle);
+      fit = subst (λ x. Fit s.sheet (silent s.sheet.cl) (waited x d) (Activate true c.args.bank c.args.row)) (sym c.open_time-t.ensures.time) (refl, openable s.sheet d c.args.bank c.args.row c.requires.inside c.requires.idle);
       encodable = omega (arith, c.requires.inside, s.sheet.rows_range);
       mute = refl;
     }
@@ -26,11 +26,11 @@ give-at-requires g c =
 pub returns : goal.returns
 returns g c =
     let s = c.args.self.now in
-    let e = c.open-time-t.ensures.time in
-    let u = c.give-at.ensures.ledger in
+    let e = c.open_time-t.ensures.time in
+    let u = c.give_at.ensures.ledger in
     let n = ap (λ x. x.clock) u in
     record {
       ledger = u ∙ ap (λ x. after s.sheet 0 (Activate true c.args.bank c.args.row) (waited x s.ledger)) e;
-      few = omega (arith, n, c.open-time-t.ensures.soon);
-      gone = c.give-at.ensures.gone;
+      few = omega (arith, n, c.open_time-t.ensures.soon);
+      gone = c.give_at.ensures.gone;
     }

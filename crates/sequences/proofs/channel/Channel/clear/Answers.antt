@@ -6,20 +6,20 @@ use Rattle.sequences.proofs.Gones.{gone_then, gone_is, stands_of, all_budgets}
 use Rattle.sequences.proofs.Fits.{closed_a, closed_b, cleared_soon}
 use Rattle.sequences.proofs.channel.Channel.clear.Goals as goal
 
-pub close-both-requires : goal.close-both-requires
-close-both-requires g c =
+pub close_both-requires : goal.close_both-requires
+close_both-requires g c =
     let d = c.args.self.now.ledger in
     record {
       stands = c.requires.stands;
       timely = timely_before d (d.clock + 324) (d.clock + 65) (omega arith) (all_budgets.spare d d.clock c.requires.soon c.requires.counted);
     }
 
-pub catch-up-requires : goal.catch-up-requires
-catch-up-requires g c =
+pub catch_up-requires : goal.catch_up-requires
+catch_up-requires g c =
     let s = c.args.self.now in
     let d = s.ledger in
-    let u = c.close-both.ensures in
-    let e = c.close-both.new.self.ledger in
+    let u = c.close_both.ensures in
+    let e = c.close_both.new.self.ledger in
     record {
       stands = stands_of u.gone;
       timely = timely_before e (d.clock + 324) (e.clock + 65) (omega (arith, u.few))
@@ -32,9 +32,9 @@ pub returns : goal.returns
 returns g c =
     let s = c.args.self.now in
     let d = s.ledger in
-    let u = c.close-both.ensures in
-    let v = c.catch-up.ensures in
-    let l : c.catch-up.new.self.ledger ≡ cleared s.sheet d = v.ledger ∙ (λ i. caught_up (u.gone.sheet i) (u.ledger i)) in
+    let u = c.close_both.ensures in
+    let v = c.catch_up.ensures in
+    let l : c.catch_up.new.self.ledger ≡ cleared s.sheet d = v.ledger ∙ (λ i. caught_up (u.gone.sheet i) (u.ledger i)) in
     record {
       ledger = l;
       fresh = v.fresh;

@@ -9,16 +9,16 @@ use Rattle.sequences.specs.Times.{waited}
 use Rattle.sequences.proofs.Fits.{closable_one}
 use Rattle.sequences.proofs.channel.Channel.close_row.Goals as goal
 
-pub give-at-requires : goal.give-at-requires
-give-at-requires g c =
+pub give_at-requires : goal.give_at-requires
+give_at-requires g c =
     let s = c.args.self.now in
     let d = s.ledger in
-    let t = c.close-time-t.result in
-    let h = c.close-time-t.ensures.soon in
+    let t = c.close_time-t.result in
+    let h = c.close_time-t.ensures.soon in
     record {
       stands = c.requires.stands;
       timely = timely_before d (d.clock + 65) (max (d.clock + 1) t) (omega arith) c.requires.timely;
-      fit = subst (λ x. Fit s.sheet (silent s.sheet.cl) (waited x d) (Precharge false c.args.bank)) (sym c.close-time-t.ensures.time) (closable_one s.sheet d c.args.bank);
+      fit = subst (λ x. Fit s.sheet (silent s.sheet.cl) (waited x d) (Precharge false c.args.bank)) (sym c.close_time-t.ensures.time) (closable_one s.sheet d c.args.bank);
       encodable = tt;
       mute = refl;
     }
@@ -26,11 +26,11 @@ give-at-requires g c =
 pub returns : goal.returns
 returns g c =
     let s = c.args.self.now in
-    let e = c.close-time-t.ensures.time in
-    let u = c.give-at.ensures.ledger in
+    let e = c.close_time-t.ensures.time in
+    let u = c.give_at.ensures.ledger in
     let n = ap (λ x. x.clock) u in
     record {
       ledger = u ∙ ap (λ x. after s.sheet 0 (Precharge false c.args.bank) (waited x s.ledger)) e;
-      few = omega (arith, n, c.close-time-t.ensures.soon);
-      gone = c.give-at.ensures.gone;
+      few = omega (arith, n, c.close_time-t.ensures.soon);
+      gone = c.give_at.ensures.gone;
     }

@@ -8,10 +8,10 @@ pub returns : goal.returns
 returns g c =
     let k = c.args.command in
     let dq = c.args.dq in
-    let e = c.pins-for.ensures in
+    let e = c.pins_for.ensures in
     record {
       ledger = c.noted-self.ensures;
-      gone = gone_one _ _ dq c.pins-for.result k c.requires.stands c.requires.timely c.requires.fit
+      gone = gone_one _ _ dq c.pins_for.result k c.requires.stands c.requires.timely c.requires.fit
           (subst (λ x. Brings x k) (sym e) (encodes k dq c.requires.encodable (omega arith))) c.requires.mute
           c.clock.ensures.reachable c.clock.ensures.after refl (ap (λ x. x.dq) e ∙ data_is k dq) c.noted-self.ensures;
     }

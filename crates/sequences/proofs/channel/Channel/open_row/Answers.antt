@@ -27,11 +27,11 @@ activate-requires g c =
       stands = c.requires.stands;
       timely = timely_before d (d.clock + 130) (d.clock + 65) (omega arith) c.requires.timely;
       inside = c.requires.inside;
-      idle = ap (λ h. h.row) (sym c.bank-track.ensures) ∙ c.in-None.is;
+      idle = ap (λ h. h.row) (sym c.bank_track.ensures) ∙ c.in-None.is;
     }
 
-pub close-row-requires : goal.close-row-requires
-close-row-requires g c =
+pub close_row-requires : goal.close_row-requires
+close_row-requires g c =
     let d = c.args.self.now.ledger in
     record {
       stands = c.requires.stands;
@@ -42,8 +42,8 @@ pub activate-requires-in-Some-2 : goal.activate-requires-in-Some-2
 activate-requires-in-Some-2 g c =
     let s = c.args.self.now in
     let d = s.ledger in
-    let u = c.close-row.ensures in
-    let e = c.close-row.new.self.ledger in
+    let u = c.close_row.ensures in
+    let e = c.close_row.new.self.ledger in
     record {
       stands = stands_of u.gone;
       timely = timely_before e (d.clock + 130) (e.clock + 65) (omega (arith, u.few)) (u.gone.keeps.timely (d.clock + 130) (omega arith) c.requires.timely);
@@ -58,7 +58,7 @@ returns-in-None g c =
     let b = c.args.bank in
     let u = c.activate.ensures in
     record {
-      ledger = u.ledger ∙ sym (from_none s.sheet b c.args.row d (track d b).row (ap (λ h. h.row) (sym c.bank-track.ensures) ∙ c.in-None.is));
+      ledger = u.ledger ∙ sym (from_none s.sheet b c.args.row d (track d b).row (ap (λ h. h.row) (sym c.bank_track.ensures) ∙ c.in-None.is));
       row = ap (λ x. (track x b).row) u.ledger ∙ opened_one s.sheet d b c.args.row;
       few = omega (arith, u.few);
       gone = u.gone;
@@ -69,10 +69,10 @@ returns-in-Some g c =
     let s = c.args.self.now in
     let d = s.ledger in
     let b = c.args.bank in
-    let x : (track d b).row ≡ Some c.in-Some.open = ap (λ h. h.row) (sym c.bank-track.ensures) ∙ c.in-Some.is in
+    let x : (track d b).row ≡ Some c.in-Some.open = ap (λ h. h.row) (sym c.bank_track.ensures) ∙ c.in-Some.is in
     record {
-      ledger = sym (from_same s.sheet b c.args.row c.in-Some.open d (track d b).row x c.if-open-row.true);
-      row = x ∙ ap {B = Option ℕ} (λ y. Some y) c.if-open-row.true;
+      ledger = sym (from_same s.sheet b c.args.row c.in-Some.open d (track d b).row x c.if-open_row.true);
+      row = x ∙ ap {B = Option ℕ} (λ y. Some y) c.if-open_row.true;
       few = omega arith;
       gone = gone_none s c.requires.stands;
     }
@@ -83,13 +83,13 @@ returns-in-Some-2 g c =
     let d = s.ledger in
     let b = c.args.bank in
     let r = c.args.row in
-    let u = c.close-row.ensures in
+    let u = c.close_row.ensures in
     let v = c.activate-in-Some-2.ensures in
-    let x : (track d b).row ≡ Some c.in-Some.open = ap (λ h. h.row) (sym c.bank-track.ensures) ∙ c.in-Some.is in
-    let e = c.close-row.new.self.ledger in
+    let x : (track d b).row ≡ Some c.in-Some.open = ap (λ h. h.row) (sym c.bank_track.ensures) ∙ c.in-Some.is in
+    let e = c.close_row.new.self.ledger in
     record {
-      ledger = v.ledger ∙ ((λ i. with_opened (u.gone.sheet i) b r (u.ledger i)) ∙ sym (from_other s.sheet b r c.in-Some.open d (track d b).row x c.if-open-row.false));
-      row = ap (λ x. (track x b).row) v.ledger ∙ opened_one c.close-row.new.self.sheet e b r;
+      ledger = v.ledger ∙ ((λ i. with_opened (u.gone.sheet i) b r (u.ledger i)) ∙ sym (from_other s.sheet b r c.in-Some.open d (track d b).row x c.if-open_row.false));
+      row = ap (λ x. (track x b).row) v.ledger ∙ opened_one c.close_row.new.self.sheet e b r;
       few = omega (arith, u.few, v.few);
       gone = gone_is _ (gone_then [] u.gone v.gone refl) u.gone.went.cells;
     }

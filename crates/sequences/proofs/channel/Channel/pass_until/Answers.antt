@@ -11,8 +11,8 @@ loop-self-init g c =
     let v = c.clear.ensures in
     record { gone = gone_none _ (stands_of v.gone); idle_a = v.idle_a; idle_b = v.idle_b; fresh = v.fresh; few = omega arith }
 
-pub wait-until-requires : goal.wait-until-requires
-wait-until-requires g c =
+pub wait_until-requires : goal.wait_until-requires
+wait_until-requires g c =
     let i = c.loop-self.invariant in
     let d = c.loop-self.self.ledger in
     record {
@@ -21,12 +21,12 @@ wait-until-requires g c =
       counted = omega (arith, c.requires.early, c.loop-self-test.true);
     }
 
-pub catch-up-requires : goal.catch-up-requires
-catch-up-requires g c =
+pub catch_up-requires : goal.catch_up-requires
+catch_up-requires g c =
     let i = c.loop-self.invariant in
     let d = c.loop-self.self.ledger in
-    let w = c.wait-until.ensures in
-    let e = c.wait-until.new.self.ledger in
+    let w = c.wait_until.ensures in
+    let e = c.wait_until.new.self.ledger in
     let n = ap (λ x. x.clock) w.ledger in
     let u = ap (λ x. x.due) w.ledger in
     record {
@@ -40,8 +40,8 @@ catch-up-requires g c =
 pub loop-self-preserved : goal.loop-self-preserved
 loop-self-preserved g c =
     let i = c.loop-self.invariant in
-    let w = c.wait-until.ensures in
-    let v = c.catch-up.ensures in
+    let w = c.wait_until.ensures in
+    let v = c.catch_up.ensures in
     let n = ap (λ x. x.clock) w.ledger in
     record {
       gone = gone_is _ (gone_then [] (gone_then [] i.gone w.gone refl) v.gone refl) (w.gone.went.cells ∙ i.gone.went.cells);
@@ -55,12 +55,12 @@ pub loop-self-smaller : goal.loop-self-smaller
 loop-self-smaller g c =
     let i = c.loop-self.invariant in
     let d = c.loop-self.self.ledger in
-    let w = c.wait-until.ensures in
-    let v = c.catch-up.ensures in
-    let e : c.catch-up.new.self.ledger ≡ caught_up c.wait-until.new.self.sheet (waited (min d.due c.args.end + 1) d) =
-    v.ledger ∙ ap (caught_up c.wait-until.new.self.sheet) (w.ledger ∙ ap (λ x. waited (x + 1) d) c.min-next.ensures) in
+    let w = c.wait_until.ensures in
+    let v = c.catch_up.ensures in
+    let e : c.catch_up.new.self.ledger ≡ caught_up c.wait_until.new.self.sheet (waited (min d.due c.args.end + 1) d) =
+    v.ledger ∙ ap (caught_up c.wait_until.new.self.sheet) (w.ledger ∙ ap (λ x. waited (x + 1) d) c.min-next.ensures) in
     let t = ap (λ x. x.clock) e in
-    let l = goes_on c.wait-until.new.self.sheet d c.args.end i.fresh c.loop-self-test.true in
+    let l = goes_on c.wait_until.new.self.sheet d c.args.end i.fresh c.loop-self-test.true in
     omega arith
 
 pub returns : goal.returns

@@ -9,16 +9,16 @@ use Rattle.sequences.specs.Times.{waited}
 use Rattle.sequences.proofs.Fits.{refreshable}
 use Rattle.sequences.proofs.channel.Channel.refresh.Goals as goal
 
-pub give-at-requires : goal.give-at-requires
-give-at-requires g c =
+pub give_at-requires : goal.give_at-requires
+give_at-requires g c =
     let s = c.args.self.now in
     let d = s.ledger in
-    let t = c.refresh-time-t.result in
-    let h = c.refresh-time-t.ensures.soon in
+    let t = c.refresh_time-t.result in
+    let h = c.refresh_time-t.ensures.soon in
     record {
       stands = c.requires.stands;
       timely = timely_before d (d.clock + 65) (max (d.clock + 1) t) (omega arith) c.requires.timely;
-      fit = subst (λ x. Fit s.sheet (silent s.sheet.cl) (waited x d) Refresh) (sym c.refresh-time-t.ensures.time) (refreshable s.sheet d c.requires.due c.requires.idle_a c.requires.idle_b);
+      fit = subst (λ x. Fit s.sheet (silent s.sheet.cl) (waited x d) Refresh) (sym c.refresh_time-t.ensures.time) (refreshable s.sheet d c.requires.due c.requires.idle_a c.requires.idle_b);
       encodable = tt;
       mute = refl;
     }
@@ -26,11 +26,11 @@ give-at-requires g c =
 pub returns : goal.returns
 returns g c =
     let s = c.args.self.now in
-    let e = c.refresh-time-t.ensures.time in
-    let u = c.give-at.ensures.ledger in
+    let e = c.refresh_time-t.ensures.time in
+    let u = c.give_at.ensures.ledger in
     let n = ap (λ x. x.clock) u in
     record {
       ledger = u ∙ ap (λ x. after s.sheet 0 Refresh (waited x s.ledger)) e;
-      few = omega (arith, n, c.refresh-time-t.ensures.soon);
-      gone = c.give-at.ensures.gone;
+      few = omega (arith, n, c.refresh_time-t.ensures.soon);
+      gone = c.give_at.ensures.gone;
     }

@@ -5,18 +5,18 @@ use Rattle.sequences.proofs.Gones.{gone_none}
 use Rattle.sequences.proofs.Fits.{tidy_now}
 use Rattle.sequences.proofs.channel.Channel.tidy.Goals as goal
 
-pub is-untidy-requires : goal.is-untidy-requires
-is-untidy-requires g c =
+pub is_untidy-requires : goal.is_untidy-requires
+is_untidy-requires g c =
     let q = c.requires.stands.current in
     record { a = omega (arith, c.requires.counted, q.opened_a); b = omega (arith, c.requires.counted, q.opened_b) }
 
-pub returns-then-is-untidy : goal.returns-then-is-untidy
-returns-then-is-untidy g c =
+pub returns-then-is_untidy : goal.returns-then-is_untidy
+returns-then-is_untidy g c =
     let s = c.args.self.now in
     let d = s.ledger in
     let u = c.clear.ensures in
     let e = c.clear.new.self.ledger in
-    let z : untidy d ≡ true = sym c.is-untidy.ensures ∙ c.if-is-untidy.true in
+    let z : untidy d ≡ true = sym c.is_untidy.ensures ∙ c.if-is_untidy.true in
     record {
       ledger = u.ledger ∙ sym (ap (λ b. cond b (cleared s.sheet d) d) z);
       tidied = record {
@@ -30,11 +30,11 @@ returns-then-is-untidy g c =
       gone = u.gone;
     }
 
-pub returns-else-is-untidy : goal.returns-else-is-untidy
-returns-else-is-untidy g c =
+pub returns-else-is_untidy : goal.returns-else-is_untidy
+returns-else-is_untidy g c =
     let s = c.args.self.now in
     let d = s.ledger in
-    let z : untidy d ≡ false = sym c.is-untidy.ensures ∙ c.if-is-untidy.false in
+    let z : untidy d ≡ false = sym c.is_untidy.ensures ∙ c.if-is_untidy.false in
     record {
       ledger = sym (ap (λ b. cond b (cleared s.sheet d) d) z);
       tidied = tidy_now d z;

@@ -8,8 +8,8 @@ use Rattle.sequences.proofs.channel.Channel.wait_until.Goals as goal
 pub loop-self-init : goal.loop-self-init
 loop-self-init g c = record { gone = gone_none _ c.requires.stands; ledger = refl; most = omega arith }
 
-pub overflow-add-self : goal.overflow-add-self
-overflow-add-self g c = omega (arith, c.requires.counted, c.requires.timely.counts, c.loop-self.invariant.most)
+pub overflow_add-self : goal.overflow_add-self
+overflow_add-self g c = omega (arith, c.requires.counted, c.requires.timely.counts, c.loop-self.invariant.most)
 
 pub give-requires : goal.give-requires
 give-requires g c =
