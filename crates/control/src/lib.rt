@@ -1,5 +1,6 @@
 // The command state of a device: one machine for the pin rules, without cells.
 #![tactic(auto)]
+
 mod command_state;
 mod moved;
 

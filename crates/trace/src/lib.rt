@@ -1,5 +1,6 @@
 // The text form of a pin trace: a sheet line, then a line for each clock.
 #![tactic(auto)]
+
 mod body;
 mod clock;
 mod digits;

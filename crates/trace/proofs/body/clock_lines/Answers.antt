@@ -6,9 +6,9 @@ use Rattle.trace.proofs.body.clock_lines.Goals as goal
 
 pub loop-line-init : goal.loop-line-init
 loop-line-init c =
-    let size : chunks_size c.into_iter-line-iterator.result ≡ 21 = ap chunks_size c.into_iter-line-iterator.ensures.into_iter-gives ∙ c.chunks-line-items.ensures.size in
-    let rest : chunks_rest c.into_iter-line-iterator.result ≡ c.args.body.now = ap chunks_rest c.into_iter-line-iterator.ensures.into_iter-gives ∙ c.chunks-line-items.ensures.rest in
-    (tt, omega arith, size, rw rest (omega arith), rw rest (counted_none (clocks_of c.args.body.now)))
+    let size : chunks_size c.into_iter-line-iterator.result ≡ 21 = ap chunks_size c.into_iter-line-iterator.ensures.into_iter_gives ∙ c.chunks-line-items.ensures.size in
+    let rest : chunks_rest c.into_iter-line-iterator.result ≡ c.args.body.now = ap chunks_rest c.into_iter-line-iterator.ensures.into_iter_gives ∙ c.chunks-line-items.ensures.rest in
+    (omega (arith, size), omega arith, size, rw rest (omega arith), rw rest (counted_none (clocks_of c.args.body.now)))
 
 pub returns-then-is_none : goal.returns-then-is_none
 returns-then-is_none c = record {
@@ -21,7 +21,7 @@ returns-then-is_none c = record {
 pub loop-line-preserved : goal.loop-line-preserved
 loop-line-preserved c =
     let size : chunks_size c.next.new.self ≡ 21 = c.in-Some.ensures.steps.0 ∙ c.loop-line.invariant.2 in (
-      tt,
+      omega (arith, size),
       omega arith,
       size,
       read_less _ _ _ _ _ _ c.loop-line.invariant.2 c.in-Some.ensures.steps.1 c.loop-line.invariant.3,

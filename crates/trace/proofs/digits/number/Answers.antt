@@ -5,7 +5,7 @@ use Rattle.trace.proofs.Numbers.{number_none, number_high, number_more, bound_mo
 use Rattle.trace.proofs.digits.number.Goals as goal
 
 pub returns-in_err-d : goal.returns-in_err-d
-returns-in_err-d c = rw c.from-residual.ensures (record {
+returns-in_err-d c = rw c.from_residual.ensures (record {
   value = sym (number_none _ _ _ _ c.loop-b-test.true c.in_err-d.ensures) ∙ c.loop-b.invariant.0;
   bound = tt;
 })

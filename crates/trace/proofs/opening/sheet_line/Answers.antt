@@ -9,7 +9,7 @@ unfolding sheet_line
 loop-i-init c = (after_none (sheet_line c.args.text.now), refl, omega arith)
 
 pub returns-in_err-value : goal.returns-in_err-value
-returns-in_err-value c = rw c.from-residual.ensures (record {
+returns-in_err-value c = rw c.from_residual.ensures (record {
   value = sym (fields_none c.args.text.now c.loop-i.fields c.loop-i.i c.loop-i.read _ _ (omega arith) c.end_before.ensures c.in_err-value.ensures.value) ∙ c.loop-i.invariant.0;
   within = tt;
 })

@@ -5,12 +5,12 @@ use Rattle.verdict.proofs.examined.examine.Goals as goal
 
 pub returns-in_err-sheet : goal.returns-in_err-sheet
 returns-in_err-sheet c =
-    let p = err_from_is_err_and c.from-residual.result c.from-residual.ensures.1 in
+    let p = err_from_is_err_and c.from_residual.result c.from_residual.ensures.1 in
     rw (p.1, p.2) (no_heading _ _ _ _ c.in_err-sheet.ensures.value)
 
 pub returns-in_err-clocks : goal.returns-in_err-clocks
 returns-in_err-clocks c =
-    let p = err_from_is_err_and c.from-residual-in_err-clocks.result c.from-residual-in_err-clocks.ensures.1 in
+    let p = err_from_is_err_and c.from_residual-in_err-clocks.result c.from_residual-in_err-clocks.ensures.1 in
     rw (p.1, p.2)
     (ill_line _ _ _ _ _ _ c.in_ok-sheet.ensures.value
     (served _ _ _ c.check.ensures (sym c.is_err.ensures.value ∙ c.if-is_err.false))
