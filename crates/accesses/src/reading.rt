@@ -48,8 +48,8 @@ pub fn read_row<D: Device>(channel: &mut Channel<D>, bank: BankName, column: u8,
     requires stands { Stands D.Device.reachable D.Device.meaning channel.old }
     requires readable { Readable channel.old.sheet (kept_for channel.old.sheet (length buffer.old) channel.old.ledger) bank column (length buffer.old) }
     ensures ledger { channel.new.ledger ≡ with_read channel.old.sheet (length buffer.old) channel.old.ledger }
-    ensures words { buffer.new ≡ span (meaning channel.old.device).cells (address channel.old.sheet channel.old.ledger bank column) (length buffer.old) }
-    ensures gone { Gone D.Device.reachable D.Device.meaning channel.old channel.new buffer.new (meaning channel.old.device).cells }
+    ensures words { buffer.new ≡ span (D.Device.meaning channel.old.device).cells (address channel.old.sheet channel.old.ledger bank column) (length buffer.old) }
+    ensures gone { Gone D.Device.reachable D.Device.meaning channel.old channel.new buffer.new (D.Device.meaning channel.old.device).cells }
 {
     let k = buffer.len();
     let cl = channel.sheet.cl as usize;

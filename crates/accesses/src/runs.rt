@@ -36,9 +36,9 @@ fn read_at<D: Device>(channel: &mut Channel<D>, address: u32, buffer: &mut [u32]
     requires one_row { address % 256 + length buffer.old ≤ 256 }
     requires timely { Timely channel.old.ledger (channel.old.ledger.clock + (147 + length buffer.old)) }
     ensures ledger { channel.new.ledger ≡ with_row_read channel.old.sheet address (length buffer.old) channel.old.ledger }
-    ensures words { buffer.new ≡ span (meaning channel.old.device).cells address (length buffer.old) }
+    ensures words { buffer.new ≡ span (D.Device.meaning channel.old.device).cells address (length buffer.old) }
     ensures few { channel.new.ledger.clock ≤ channel.old.ledger.clock + (147 + length buffer.old) }
-    ensures gone { Gone D.Device.reachable D.Device.meaning channel.old channel.new buffer.new (meaning channel.old.device).cells }
+    ensures gone { Gone D.Device.reachable D.Device.meaning channel.old channel.new buffer.new (D.Device.meaning channel.old.device).cells }
 {
     let (bank, row, column) = locate(channel.sheet.rows, address);
     channel.select(bank, row);
@@ -53,9 +53,9 @@ pub fn fetch<D: Device>(channel: &mut Channel<D>, address: u32, buffer: &mut [u3
     requires inside { address + length buffer.old ≤ channel.old.sheet.rows * 512 }
     requires timely { Timely channel.old.ledger (channel.old.ledger.clock + 550) }
     ensures ledger { channel.new.ledger ≡ with_fetched channel.old.sheet address (length buffer.old) channel.old.ledger }
-    ensures words { buffer.new ≡ span (meaning channel.old.device).cells address (length buffer.old) }
+    ensures words { buffer.new ≡ span (D.Device.meaning channel.old.device).cells address (length buffer.old) }
     ensures few { channel.new.ledger.clock ≤ channel.old.ledger.clock + 550 }
-    ensures gone { Gone D.Device.reachable D.Device.meaning channel.old channel.new buffer.new (meaning channel.old.device).cells }
+    ensures gone { Gone D.Device.reachable D.Device.meaning channel.old channel.new buffer.new (D.Device.meaning channel.old.device).cells }
 {
     let room = 256 - (address % 256) as usize;
     if buffer.len() <= room {

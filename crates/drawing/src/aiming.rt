@@ -25,7 +25,7 @@ pub fn aim<D: Device>(channel: &mut Channel<D>, address: u32) -> (BankName, u8)
     ensures mask { channel.new.ledger.mask ≡ channel.old.ledger.mask }
     ensures colour { channel.new.ledger.colour ≡ channel.old.ledger.colour }
     ensures few { channel.new.ledger.clock ≤ channel.old.ledger.clock + 145 }
-    ensures gone { Gone D.Device.reachable D.Device.meaning channel.old channel.new [] (meaning channel.old.device).cells }
+    ensures gone { Gone D.Device.reachable D.Device.meaning channel.old channel.new [] (D.Device.meaning channel.old.device).cells }
 {
     let (bank, row, column) = locate(channel.sheet.rows, address);
     channel.select(bank, row);

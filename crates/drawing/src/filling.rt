@@ -29,7 +29,7 @@ fn fill_row<D: Device>(channel: &mut Channel<D>, bank: BankName, column: u8, n: 
     requires bus { channel.old.ledger.bus ≤ channel.old.ledger.clock + 1 }
     requires timely { Timely channel.old.ledger (channel.old.ledger.clock + 7 * blocks column n) }
     ensures ledger { channel.new.ledger ≡ with_blocks channel.old.sheet bank (blocks column n) channel.old.ledger }
-    ensures gone { Gone D.Device.reachable D.Device.meaning channel.old channel.new [] (spread (meaning channel.old.device).cells (place_of channel.old.sheet channel.old.ledger bank column) n channel.old.ledger.mask (λ _. channel.old.ledger.colour)) }
+    ensures gone { Gone D.Device.reachable D.Device.meaning channel.old channel.new [] (spread (D.Device.meaning channel.old.device).cells (place_of channel.old.sheet channel.old.ledger bank column) n channel.old.ledger.mask (λ _. channel.old.ledger.colour)) }
 {
     let first = column as u32 % 8;
     for i in 0..(first + n + 7) / 8 {
@@ -60,7 +60,7 @@ fn fill_at<D: Device>(channel: &mut Channel<D>, address: u32, n: u32)
     ensures mask { channel.new.ledger.mask ≡ channel.old.ledger.mask }
     ensures colour { channel.new.ledger.colour ≡ channel.old.ledger.colour }
     ensures few { channel.new.ledger.clock ≤ channel.old.ledger.clock + (147 + 7 * blocks (address % 256) n) }
-    ensures gone { Gone D.Device.reachable D.Device.meaning channel.old channel.new [] (spread (meaning channel.old.device).cells address n channel.old.ledger.mask (λ _. channel.old.ledger.colour)) }
+    ensures gone { Gone D.Device.reachable D.Device.meaning channel.old channel.new [] (spread (D.Device.meaning channel.old.device).cells address n channel.old.ledger.mask (λ _. channel.old.ledger.colour)) }
 {
     let (bank, column) = aim(channel, address);
     fill_row(channel, bank, column, n);
@@ -75,7 +75,7 @@ pub fn paint<D: Device>(channel: &mut Channel<D>, address: u32, n: u32)
     requires timely { Timely channel.old.ledger (channel.old.ledger.clock + 532) }
     ensures ledger { channel.new.ledger ≡ with_filled channel.old.sheet address n channel.old.ledger }
     ensures few { channel.new.ledger.clock ≤ channel.old.ledger.clock + 532 }
-    ensures gone { Gone D.Device.reachable D.Device.meaning channel.old channel.new [] (spread (meaning channel.old.device).cells address n channel.old.ledger.mask (λ _. channel.old.ledger.colour)) }
+    ensures gone { Gone D.Device.reachable D.Device.meaning channel.old channel.new [] (spread (D.Device.meaning channel.old.device).cells address n channel.old.ledger.mask (λ _. channel.old.ledger.colour)) }
 {
     let room = 256 - address % 256;
     if n <= room {

@@ -57,7 +57,7 @@ pub fn load<D: Device>(channel: &mut Channel<D>, which: Register, word: u32)
     ensures held { register channel.new.ledger which ≡ word }
     ensures free { channel.new.ledger.free ≤ max channel.old.ledger.free (channel.new.ledger.clock + 2) }
     ensures few { channel.new.ledger.clock ≤ max channel.old.ledger.free (channel.old.ledger.clock + 7) }
-    ensures gone { Gone D.Device.reachable D.Device.meaning channel.old channel.new [] (meaning channel.old.device).cells }
+    ensures gone { Gone D.Device.reachable D.Device.meaning channel.old channel.new [] (D.Device.meaning channel.old.device).cells }
 {
     if which.held(channel.ledger) != word {
         let t = load_time(channel.sheet, channel.ledger);

@@ -20,7 +20,7 @@ fn write_row<D: Device>(channel: &mut Channel<D>, bank: BankName, column: u8, wo
     requires bus { channel.old.ledger.bus ≤ channel.old.ledger.clock + 1 }
     requires timely { Timely channel.old.ledger (channel.old.ledger.clock + length words.now) }
     ensures ledger { channel.new.ledger ≡ with_writes bank (length words.now) channel.old.ledger }
-    ensures gone { Gone D.Device.reachable D.Device.meaning channel.old channel.new [] (all_written (place_of channel.old.sheet channel.old.ledger bank column) channel.old.ledger.mask words.now (meaning channel.old.device).cells) }
+    ensures gone { Gone D.Device.reachable D.Device.meaning channel.old channel.new [] (all_written (place_of channel.old.sheet channel.old.ledger bank column) channel.old.ledger.mask words.now (D.Device.meaning channel.old.device).cells) }
 {
     for j in 0..words.len() {
         let column = column + j as u8;
@@ -45,7 +45,7 @@ fn write_at<D: Device>(channel: &mut Channel<D>, address: u32, words: &[u32])
     ensures ledger { channel.new.ledger ≡ with_row_written channel.old.sheet address (length words.now) channel.old.ledger }
     ensures mask { channel.new.ledger.mask ≡ channel.old.ledger.mask }
     ensures few { channel.new.ledger.clock ≤ channel.old.ledger.clock + (147 + length words.now) }
-    ensures gone { Gone D.Device.reachable D.Device.meaning channel.old channel.new [] (all_written address channel.old.ledger.mask words.now (meaning channel.old.device).cells) }
+    ensures gone { Gone D.Device.reachable D.Device.meaning channel.old channel.new [] (all_written address channel.old.ledger.mask words.now (D.Device.meaning channel.old.device).cells) }
 {
     let (bank, column) = aim(channel, address);
     write_row(channel, bank, column, words);
@@ -60,7 +60,7 @@ pub fn store<D: Device>(channel: &mut Channel<D>, address: u32, words: &[u32])
     requires timely { Timely channel.old.ledger (channel.old.ledger.clock + 550) }
     ensures ledger { channel.new.ledger ≡ with_stored channel.old.sheet address (length words.now) channel.old.ledger }
     ensures few { channel.new.ledger.clock ≤ channel.old.ledger.clock + 550 }
-    ensures gone { Gone D.Device.reachable D.Device.meaning channel.old channel.new [] (all_written address channel.old.ledger.mask words.now (meaning channel.old.device).cells) }
+    ensures gone { Gone D.Device.reachable D.Device.meaning channel.old channel.new [] (all_written address channel.old.ledger.mask words.now (D.Device.meaning channel.old.device).cells) }
 {
     let room = 256 - (address % 256) as usize;
     if words.len() <= room {

@@ -47,7 +47,7 @@ impl<D: Device> Ready<D> {
     pub fn read(&mut self, address: u32, buffer: &mut [u32]) -> Result<u32, Refusal>
         requires { Rest D.Device.reachable D.Device.meaning self.old }
         ensures rest { Rest D.Device.reachable D.Device.meaning self.new }
-        ensures answer { ReadAnswer (meaning self.old.channel.device) (meaning self.new.channel.device) address buffer.old buffer.new (self.new ≡ self.old) result }
+        ensures answer { ReadAnswer (D.Device.meaning self.old.channel.device) (D.Device.meaning self.new.channel.device) address buffer.old buffer.new (self.new ≡ self.old) result }
         ensures ledger { ReadMoves self.old.channel.sheet address (length buffer.old) self.old.channel.ledger self.new.channel.ledger result }
     {
         let start = self.channel.ledger.clock;
@@ -63,7 +63,7 @@ impl<D: Device> Ready<D> {
     pub fn wait(&mut self, clocks: u32) -> Result<u32, Refusal>
         requires { Rest D.Device.reachable D.Device.meaning self.old }
         ensures rest { Rest D.Device.reachable D.Device.meaning self.new }
-        ensures answer { WaitAnswer (meaning self.old.channel.device) (meaning self.new.channel.device) clocks (self.new ≡ self.old) result }
+        ensures answer { WaitAnswer (D.Device.meaning self.old.channel.device) (D.Device.meaning self.new.channel.device) clocks (self.new ≡ self.old) result }
     {
         let start = self.channel.ledger.clock;
         if let Some(refusal) = wait_refused(start, clocks) {

@@ -51,7 +51,7 @@ impl<D: Device> Ready<D> {
     pub fn read(&mut self, address: u32, buffer: &mut [u32]) -> Result<u32, Refusal>
         requires { Rest D.Device.reachable D.Device.meaning self.old }
         ensures rest { Rest D.Device.reachable D.Device.meaning self.new }
-        ensures answered { Answered (meaning self.old.channel.device) (meaning self.new.channel.device) (reading address buffer.old) (reading address buffer.new) result }
+        ensures answered { Answered (D.Device.meaning self.old.channel.device) (D.Device.meaning self.new.channel.device) (reading address buffer.old) (reading address buffer.new) result }
         ensures ledger { IfAccepted result (self.new.channel.ledger ≡ after_read self.old.channel.sheet address (count buffer.old) self.old.channel.ledger) }
         ensures same { IfRefused result (self.new ≡ self.old) }
     {
@@ -68,7 +68,7 @@ impl<D: Device> Ready<D> {
     pub fn write(&mut self, pen: &Pen, address: u32, words: &[u32]) -> Result<u32, Refusal>
         requires { Rest D.Device.reachable D.Device.meaning self.old }
         ensures rest { Rest D.Device.reachable D.Device.meaning self.new }
-        ensures answered { Answered (meaning self.old.channel.device) (meaning self.new.channel.device) (writing pen.now address words.now) (writing pen.now address words.now) result }
+        ensures answered { Answered (D.Device.meaning self.old.channel.device) (D.Device.meaning self.new.channel.device) (writing pen.now address words.now) (writing pen.now address words.now) result }
         ensures ledger { IfAccepted result (self.new.channel.ledger ≡ after_write self.old.channel.sheet pen.now address (count words.now) self.old.channel.ledger) }
         ensures same { IfRefused result (self.new ≡ self.old) }
     {
@@ -87,7 +87,7 @@ impl<D: Device> Ready<D> {
     pub fn fill(&mut self, pen: &Pen, address: u32, length: u32) -> Result<u32, Refusal>
         requires { Rest D.Device.reachable D.Device.meaning self.old }
         ensures rest { Rest D.Device.reachable D.Device.meaning self.new }
-        ensures answered { Answered (meaning self.old.channel.device) (meaning self.new.channel.device) (filling pen.now address length) (filling pen.now address length) result }
+        ensures answered { Answered (D.Device.meaning self.old.channel.device) (D.Device.meaning self.new.channel.device) (filling pen.now address length) (filling pen.now address length) result }
         ensures ledger { IfAccepted result (self.new.channel.ledger ≡ after_fill self.old.channel.sheet pen.now address length self.old.channel.ledger) }
         ensures same { IfRefused result (self.new ≡ self.old) }
     {
@@ -106,7 +106,7 @@ impl<D: Device> Ready<D> {
     pub fn wait(&mut self, clocks: u32) -> Result<u32, Refusal>
         requires { Rest D.Device.reachable D.Device.meaning self.old }
         ensures rest { Rest D.Device.reachable D.Device.meaning self.new }
-        ensures answered { Answered (meaning self.old.channel.device) (meaning self.new.channel.device) (waiting clocks) (waiting clocks) result }
+        ensures answered { Answered (D.Device.meaning self.old.channel.device) (D.Device.meaning self.new.channel.device) (waiting clocks) (waiting clocks) result }
         ensures same { IfRefused result (self.new ≡ self.old) }
     {
         let start = self.channel.ledger.clock;

@@ -18,9 +18,9 @@ use sheet::Sheet;
 
 // Quiet clocks.
 fn pause<D: Device>(device: &mut D, clocks: u32)
-    requires { reachable device.old }
-    ensures reachable { reachable device.new }
-    ensures after { meaning device.new ≡ run (meaning device.old) (replicate clocks nop) }
+    requires { D.Device.reachable device.old }
+    ensures reachable { D.Device.reachable device.new }
+    ensures after { D.Device.meaning device.new ≡ run (D.Device.meaning device.old) (replicate clocks nop) }
 {
     for _i in 0..clocks {
         let _ = device.clock(pins_for(Command::Nop, 0));
@@ -29,9 +29,9 @@ fn pause<D: Device>(device: &mut D, clocks: u32)
 
 // PRE of both banks, LMR of length 1 at the sheet's latency, and two REF, each as soon as it may come.
 fn wake<D: Device>(device: &mut D, sheet: Sheet)
-    requires { reachable device.old }
-    ensures reachable { reachable device.new }
-    ensures after { meaning device.new ≡ run (meaning device.old) (priming_pins sheet) }
+    requires { D.Device.reachable device.old }
+    ensures reachable { D.Device.reachable device.new }
+    ensures after { D.Device.meaning device.new ≡ run (D.Device.meaning device.old) (priming_pins sheet) }
 {
     let close = pins_for(
         Command::Precharge {
@@ -83,8 +83,8 @@ fn first_ledger(sheet: Sheet) -> Ledger
 impl<D: Device> Off<D> {
     // Switches the device on and lets its pause pass.
     pub fn settle(self) -> Settled<D>
-        ensures after { meaning result.device ≡ settled (meaning self.device).state.sheet (meaning self.device).cells }
-        ensures stretch { Stretch (switch_on (meaning self.device)) (meaning result.device) (meaning self.device).state.sheet.pup [] }
+        ensures after { D.Device.meaning result.device ≡ settled (D.Device.meaning self.device).state.sheet (D.Device.meaning self.device).cells }
+        ensures stretch { Stretch (switch_on (D.Device.meaning self.device)) (D.Device.meaning result.device) (D.Device.meaning self.device).state.sheet.pup [] }
         ensures settled { IsSettled D.Device.reachable D.Device.meaning result }
     {
         let Off { mut device } = self;
@@ -99,11 +99,11 @@ impl<D: Device> Settled<D> {
     // Closes both banks, loads the mode and refreshes twice.
     pub fn prime(self) -> Ready<D>
         requires { IsSettled D.Device.reachable D.Device.meaning self }
-        ensures stretch { Stretch (meaning self.device) (meaning result.channel.device) ((meaning self.device).state.sheet.rp + (meaning self.device).state.sheet.rc + 3) [] }
-        ensures few { (meaning self.device).state.sheet.rp + (meaning self.device).state.sheet.rc + 3 ≤ 700 }
-        ensures cells { (meaning result.channel.device).cells ≡ (meaning self.device).cells }
-        ensures sheet { result.channel.sheet ≡ (meaning self.device).state.sheet }
-        ensures ledger { result.channel.ledger ≡ primed (meaning self.device).state.sheet ((meaning self.device).state.sheet.pup + 1) ((meaning self.device).state.sheet.pup + ((meaning self.device).state.sheet.rp + (meaning self.device).state.sheet.rc + 3)) }
+        ensures stretch { Stretch (D.Device.meaning self.device) (D.Device.meaning result.channel.device) ((D.Device.meaning self.device).state.sheet.rp + (D.Device.meaning self.device).state.sheet.rc + 3) [] }
+        ensures few { (D.Device.meaning self.device).state.sheet.rp + (D.Device.meaning self.device).state.sheet.rc + 3 ≤ 700 }
+        ensures cells { (D.Device.meaning result.channel.device).cells ≡ (D.Device.meaning self.device).cells }
+        ensures sheet { result.channel.sheet ≡ (D.Device.meaning self.device).state.sheet }
+        ensures ledger { result.channel.ledger ≡ primed (D.Device.meaning self.device).state.sheet ((D.Device.meaning self.device).state.sheet.pup + 1) ((D.Device.meaning self.device).state.sheet.pup + ((D.Device.meaning self.device).state.sheet.rp + (D.Device.meaning self.device).state.sheet.rc + 3)) }
         ensures rest { Rest D.Device.reachable D.Device.meaning result }
     {
         let Settled { mut device } = self;

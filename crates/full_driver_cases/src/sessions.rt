@@ -111,7 +111,7 @@ fn ask_all<D: Device>(ready: &mut Ready<D>, examples: &[Example]) -> (Option<(us
 
 // How many clocks a device has had: one more is made a fault, whose clock tells.
 fn count<D: Device>(device: &mut D) -> u64
-    requires { reachable device.old }
+    requires { D.Device.reachable device.old }
 {
     let low = Level::Low;
     let _ = device.clock(Pins {

@@ -16,7 +16,7 @@ impl<D: Device> Channel<D> {
         requires timely { Timely self.old.ledger (self.old.ledger.clock + 65) }
         ensures ledger { self.new.ledger ≡ with_closed self.old.sheet bank self.old.ledger }
         ensures few { self.new.ledger.clock ≤ self.old.ledger.clock + 65 }
-        ensures gone { Gone D.Device.reachable D.Device.meaning self.old self.new [] (meaning self.old.device).cells }
+        ensures gone { Gone D.Device.reachable D.Device.meaning self.old self.new [] (D.Device.meaning self.old.device).cells }
     {
         let t = close_time(self.sheet, bank, self.ledger);
         self.give_at(t, Command::Precharge { both: false, bank }, 0);
@@ -28,7 +28,7 @@ impl<D: Device> Channel<D> {
         requires timely { Timely self.old.ledger (self.old.ledger.clock + 65) }
         ensures ledger { self.new.ledger ≡ with_both_closed self.old.sheet self.old.ledger }
         ensures few { self.new.ledger.clock ≤ self.old.ledger.clock + 65 }
-        ensures gone { Gone D.Device.reachable D.Device.meaning self.old self.new [] (meaning self.old.device).cells }
+        ensures gone { Gone D.Device.reachable D.Device.meaning self.old self.new [] (D.Device.meaning self.old.device).cells }
     {
         let t = close_both_time(self.sheet, self.ledger);
         self.give_at(
@@ -50,7 +50,7 @@ impl<D: Device> Channel<D> {
         requires idle_b { self.old.ledger.b.row ≡ None }
         ensures ledger { self.new.ledger ≡ with_refresh self.old.sheet self.old.ledger }
         ensures few { self.new.ledger.clock ≤ self.old.ledger.clock + 65 }
-        ensures gone { Gone D.Device.reachable D.Device.meaning self.old self.new [] (meaning self.old.device).cells }
+        ensures gone { Gone D.Device.reachable D.Device.meaning self.old self.new [] (D.Device.meaning self.old.device).cells }
     {
         let t = refresh_time(self.sheet, self.ledger);
         self.give_at(t, Command::Refresh, 0);
@@ -64,7 +64,7 @@ impl<D: Device> Channel<D> {
         requires idle { (track self.old.ledger bank).row ≡ None }
         ensures ledger { self.new.ledger ≡ with_opened self.old.sheet bank row self.old.ledger }
         ensures few { self.new.ledger.clock ≤ self.old.ledger.clock + 65 }
-        ensures gone { Gone D.Device.reachable D.Device.meaning self.old self.new [] (meaning self.old.device).cells }
+        ensures gone { Gone D.Device.reachable D.Device.meaning self.old self.new [] (D.Device.meaning self.old.device).cells }
     {
         let t = open_time(self.sheet, bank, self.ledger);
         self.give_at(

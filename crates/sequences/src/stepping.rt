@@ -20,9 +20,9 @@ impl<D: Device> Channel<D> {
         requires timely { Timely self.old.ledger (self.old.ledger.clock + 1) }
         requires fit { Fit self.old.sheet (silent self.old.sheet.cl) self.old.ledger command }
         requires encodable { Encodable command }
-        requires mute { asked self.old.sheet self.old.ledger command (meaning self.old.device).cells ≡ None }
+        requires mute { asked self.old.sheet self.old.ledger command (D.Device.meaning self.old.device).cells ≡ None }
         ensures ledger { self.new.ledger ≡ after self.old.sheet dq command self.old.ledger }
-        ensures gone { Gone D.Device.reachable D.Device.meaning self.old self.new [] (stored self.old.sheet self.old.ledger dq command (meaning self.old.device).cells) }
+        ensures gone { Gone D.Device.reachable D.Device.meaning self.old self.new [] (stored self.old.sheet self.old.ledger dq command (D.Device.meaning self.old.device).cells) }
     {
         let _ = self.device.clock(pins_for(command, dq));
         self.ledger = noted(self.ledger, self.sheet, command, dq);
@@ -34,7 +34,7 @@ impl<D: Device> Channel<D> {
         requires timely { Timely self.old.ledger t }
         requires counted { self.old.ledger.clock < 2 ^ 62 }
         ensures ledger { self.new.ledger ≡ waited t self.old.ledger }
-        ensures gone { Gone D.Device.reachable D.Device.meaning self.old self.new [] (meaning self.old.device).cells }
+        ensures gone { Gone D.Device.reachable D.Device.meaning self.old self.new [] (D.Device.meaning self.old.device).cells }
     {
         while self.ledger.clock + 1 < t {
             self.give(Command::Nop, 0);
@@ -47,9 +47,9 @@ impl<D: Device> Channel<D> {
         requires timely { Timely self.old.ledger (max (self.old.ledger.clock + 1) t) }
         requires fit { Fit self.old.sheet (silent self.old.sheet.cl) (waited t self.old.ledger) command }
         requires encodable { Encodable command }
-        requires mute { asked self.old.sheet (waited t self.old.ledger) command (meaning self.old.device).cells ≡ None }
+        requires mute { asked self.old.sheet (waited t self.old.ledger) command (D.Device.meaning self.old.device).cells ≡ None }
         ensures ledger { self.new.ledger ≡ after self.old.sheet dq command (waited t self.old.ledger) }
-        ensures gone { Gone D.Device.reachable D.Device.meaning self.old self.new [] (stored self.old.sheet (waited t self.old.ledger) dq command (meaning self.old.device).cells) }
+        ensures gone { Gone D.Device.reachable D.Device.meaning self.old self.new [] (stored self.old.sheet (waited t self.old.ledger) dq command (D.Device.meaning self.old.device).cells) }
     {
         self.wait_until(t);
         self.give(command, dq);

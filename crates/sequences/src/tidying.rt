@@ -20,7 +20,7 @@ impl<D: Device> Channel<D> {
         ensures ledger { self.new.ledger ≡ opened_from self.old.sheet bank row (track self.old.ledger bank).row self.old.ledger }
         ensures row { (track self.new.ledger bank).row ≡ Some row }
         ensures few { self.new.ledger.clock ≤ self.old.ledger.clock + 130 }
-        ensures gone { Gone D.Device.reachable D.Device.meaning self.old self.new [] (meaning self.old.device).cells }
+        ensures gone { Gone D.Device.reachable D.Device.meaning self.old self.new [] (D.Device.meaning self.old.device).cells }
     {
         match bank_track(self.ledger, bank).row {
             None => self.activate(bank, row),
@@ -41,7 +41,7 @@ impl<D: Device> Channel<D> {
         ensures row { (track self.new.ledger bank).row ≡ Some row }
         ensures columns { Reachable self.old.sheet self.new.ledger bank false }
         ensures few { self.new.ledger.clock ≤ self.old.ledger.clock + 144 }
-        ensures gone { Gone D.Device.reachable D.Device.meaning self.old self.new [] (meaning self.old.device).cells }
+        ensures gone { Gone D.Device.reachable D.Device.meaning self.old self.new [] (D.Device.meaning self.old.device).cells }
     {
         self.open_row(bank, row);
         let t = column_time(self.sheet, bank, self.ledger);
@@ -59,7 +59,7 @@ impl<D: Device> Channel<D> {
         ensures idle_a { self.new.ledger.a.row ≡ None }
         ensures idle_b { self.new.ledger.b.row ≡ None }
         ensures few { self.new.ledger.clock ≤ self.old.ledger.clock + 65 }
-        ensures gone { Gone D.Device.reachable D.Device.meaning self.old self.new [] (meaning self.old.device).cells }
+        ensures gone { Gone D.Device.reachable D.Device.meaning self.old self.new [] (D.Device.meaning self.old.device).cells }
     {
         if self.ledger.due <= self.ledger.clock {
             self.refresh();
@@ -76,7 +76,7 @@ impl<D: Device> Channel<D> {
         ensures idle_a { self.new.ledger.a.row ≡ None }
         ensures idle_b { self.new.ledger.b.row ≡ None }
         ensures few { self.new.ledger.clock ≤ self.old.ledger.clock + 80 }
-        ensures gone { Gone D.Device.reachable D.Device.meaning self.old self.new [] (meaning self.old.device).cells }
+        ensures gone { Gone D.Device.reachable D.Device.meaning self.old self.new [] (D.Device.meaning self.old.device).cells }
     {
         self.close_both();
         self.catch_up();
@@ -91,7 +91,7 @@ impl<D: Device> Channel<D> {
         ensures tidied { Tidied self.new.ledger }
         ensures few { self.new.ledger.clock ≤ self.old.ledger.clock + 130 }
         ensures short { self.new.ledger.clock ≤ self.old.ledger.clock + 80 }
-        ensures gone { Gone D.Device.reachable D.Device.meaning self.old self.new [] (meaning self.old.device).cells }
+        ensures gone { Gone D.Device.reachable D.Device.meaning self.old self.new [] (D.Device.meaning self.old.device).cells }
     {
         if is_untidy(self.ledger) {
             self.clear();

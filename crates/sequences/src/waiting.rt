@@ -16,7 +16,7 @@ impl<D: Device> Channel<D> {
         ensures reached { end ≤ self.new.ledger.clock }
         ensures few { self.new.ledger.clock ≤ max (self.old.ledger.clock + 130) (end + 65) }
         ensures soon { DueSoon self.new.ledger }
-        ensures gone { Gone D.Device.reachable D.Device.meaning self.old self.new [] (meaning self.old.device).cells }
+        ensures gone { Gone D.Device.reachable D.Device.meaning self.old self.new [] (D.Device.meaning self.old.device).cells }
     {
         self.clear();
         while self.ledger.clock < end {

@@ -12,7 +12,7 @@ use full_driver::{Off, Ready};
 pub fn ask<D: Device>(driver: &mut Ready<D>, request: &mut Request) -> Result<u32, Refusal>
     requires { Rest D.Device.reachable D.Device.meaning driver.old }
     ensures rest { Rest D.Device.reachable D.Device.meaning driver.new }
-    ensures answered { Answered (meaning (device_of driver.old)) (meaning (device_of driver.new)) (ask_of request.old) (ask_of request.new) result }
+    ensures answered { Answered (D.Device.meaning (device_of driver.old)) (D.Device.meaning (device_of driver.new)) (ask_of request.old) (ask_of request.new) result }
     ensures same { IfRefused result (driver.new ≡ driver.old) }
 {
     match request {
@@ -35,7 +35,7 @@ pub fn ask<D: Device>(driver: &mut Ready<D>, request: &mut Request) -> Result<u3
 pub fn serve<D: Device>(driver: &mut Ready<D>, jobs: &mut [Job])
     requires { Rest D.Device.reachable D.Device.meaning driver.old }
     ensures rest { Rest D.Device.reachable D.Device.meaning driver.new }
-    ensures served { Served (meaning (device_of driver.old)) jobs.old jobs.new (meaning (device_of driver.new)) }
+    ensures served { Served (D.Device.meaning (device_of driver.old)) jobs.old jobs.new (D.Device.meaning (device_of driver.new)) }
 {
     for job in jobs.iter_mut() {
         job.answer = Some(ask(driver, &mut job.request));
@@ -45,8 +45,8 @@ pub fn serve<D: Device>(driver: &mut Ready<D>, jobs: &mut [Job])
 // From any state of the device: switches it on, settles and primes it, and makes the requests in order. Gives the
 // device back.
 pub fn session<D: Device>(device: D, jobs: &mut [Job]) -> D
-    ensures law { Whole (meaning device) jobs.old jobs.new (meaning result) }
-    ensures reachable { reachable result }
+    ensures law { Whole (D.Device.meaning device) jobs.old jobs.new (D.Device.meaning result) }
+    ensures reachable { D.Device.reachable result }
 {
     let mut driver = Off::new(device).settle().prime();
     serve(&mut driver, jobs);

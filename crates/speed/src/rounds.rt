@@ -37,8 +37,8 @@ pub fn read_clocks(rt: &HostRuntime) -> anyhow::Result<Clocks> {
 }
 
 fn play<D: Device>(device: &mut D, pins: &[Pins]) -> u32
-    requires { reachable device.old }
-    ensures { reachable device.new }
+    requires { D.Device.reachable device.old }
+    ensures { D.Device.reachable device.new }
 {
     let mut sum = 0u32;
     for p in pins {

@@ -17,9 +17,9 @@ returns g c =
     let w = ran_all m n _ _ _ _ c.args.pins.now c.loop-p.p-index c.loop-p.agreed c.switch_on.ensures.after c.switch_on-2.ensures.after c.loop-p-test.false c.loop-p.invariant.2 in
     record {
       first = sym w.first;
-      first-reachable = c.loop-p.invariant.0;
+      first_reachable = c.loop-p.invariant.0;
       second = sym w.second;
-      second-reachable = c.loop-p.invariant.1;
+      second_reachable = c.loop-p.invariant.1;
       same = λ t. w.holds t refl;
       told = λ e. (w.tells e).0;
       agree = ran_agree m n _ _ c.args.pins.now c.loop-p.agreed w;

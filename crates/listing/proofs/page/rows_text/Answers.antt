@@ -8,8 +8,8 @@ loop-k-preserved c =
     rows_more c.args.latency (clocks c.args.body.now) c.loop-k.k c.in-Some.pins _ _ _
     (c.in-Some.ensures.listed _ c.requires.well)
     c.loop-k.invariant
-    (c.as_str.ensures.value ∙ c.in_ok-line.ensures)
-    c.in_ok-push_str.ensures.bytes
+    (c.as_str.ensures.value ∙ c.in_ok-line-in-Some.ensures)
+    c.in_ok-push_str-in-Some.ensures.bytes
 
 pub unreachable-requires : goal.unreachable-requires
 unreachable-requires c =

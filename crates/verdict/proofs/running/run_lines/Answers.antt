@@ -44,5 +44,5 @@ returns c =
       planes = planes_left memory e.cells.now _ s (state_of e.control) (line d.words) (line e.words) x ps c.requires.fit start.state start.words went.sheet went.fit
           (went.after ∙ ap (λ (y : Meaning). run y ps) (sym same))
           (subst (λ (xs : List ℕ). drop (2048 * s.sheet.rows) e.cells.now ≡ drop (2048 * s.sheet.rows) xs) start.memory went.rest)
-          (went.length ∙ ap length start.memory) (search rules) (λ j. (c.type-inv.planes j).fits);
+          (went.length ∙ ap length start.memory) (search rules) (λ j. (c.type_inv.planes j).fits);
     }
