@@ -18,6 +18,6 @@ pub refusal_read : (j : Reply Said) (e : ℕ × List ℕ) → Err e ≡ written 
 refusal_read (Ok s) e h = let z : ◌≡◌ {A = ℕ} 0 1 = cc in absurd (omega arith)
 refusal_read (Err x) e h = let same : e ≡ x = cc in ap refusal_text same
 
-pub made_as : {X E Y : Type 0} (f : X → Y) (P : X → Type 0) (r : Result X E) (a b : Y) → IfOk r (λ v. (f v ≡ a) × P v) → a ≡ b → IfOk r (λ v. f v ≡ b)
-made_as f P (Ok x) a b h e = h.0 ∙ e
-made_as f P (Err x) a b h e = tt
+pub made_as : {X E Y : Type 0} (f : X → Y) (r : Result X E) (a b : Y) → IfOk r (λ v. f v ≡ a) → a ≡ b → IfOk r (λ v. f v ≡ b)
+made_as f (Ok x) a b h e = h ∙ e
+made_as f (Err x) a b h e = tt

@@ -1,5 +1,6 @@
 // Judges a pin trace that standard input holds.
 #![tactic(auto)]
+
 mod answers;
 
 use answers::answer;

@@ -10,5 +10,5 @@ loop-i-preserved g c =
     record {
       valid = c.clock.ensures.reachable;
       means = c.clock.ensures.after
-          ∙ ((λ k. step (i.means k) (c.pins_for.ensures k)) ∙ sym (run_more c.loop-i.-i (g.D.Device.meaning c.args.device.now) nop));
+          ∙ ((λ k. step (i.means k) (c.pins_for.ensures k)) ∙ sym (run_more c.loop-i._i (g.D.Device.meaning c.args.device.now) nop));
     }

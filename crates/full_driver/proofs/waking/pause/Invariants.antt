@@ -6,5 +6,5 @@ use Rattle.full_driver.proofs.waking.pause.Given as goal
 abbrev pub invariant-loop-i : goal.invariant-loop-i
 invariant-loop-i g l = record {
   valid : g.D.Device.reachable l.device;
-  means : g.D.Device.meaning l.device ≡ run (g.D.Device.meaning l.initial.device) (replicate l.-i nop);
+  means : g.D.Device.meaning l.device ≡ run (g.D.Device.meaning l.initial.device) (replicate l._i nop);
 }

@@ -71,8 +71,8 @@ returns-in-Some g c =
     let b = c.args.bank in
     let x : (track d b).row ≡ Some c.in-Some.open = ap (λ h. h.row) (sym c.bank_track.ensures) ∙ c.in-Some.is in
     record {
-      ledger = sym (from_same s.sheet b c.args.row c.in-Some.open d (track d b).row x c.if-open_row.true);
-      row = x ∙ ap {B = Option ℕ} (λ y. Some y) c.if-open_row.true;
+      ledger = sym (from_same s.sheet b c.args.row c.in-Some.open d (track d b).row x c.if-open-row.true);
+      row = x ∙ ap {B = Option ℕ} (λ y. Some y) c.if-open-row.true;
       few = omega arith;
       gone = gone_none s c.requires.stands;
     }
@@ -88,7 +88,7 @@ returns-in-Some-2 g c =
     let x : (track d b).row ≡ Some c.in-Some.open = ap (λ h. h.row) (sym c.bank_track.ensures) ∙ c.in-Some.is in
     let e = c.close_row.new.self.ledger in
     record {
-      ledger = v.ledger ∙ ((λ i. with_opened (u.gone.sheet i) b r (u.ledger i)) ∙ sym (from_other s.sheet b r c.in-Some.open d (track d b).row x c.if-open_row.false));
+      ledger = v.ledger ∙ ((λ i. with_opened (u.gone.sheet i) b r (u.ledger i)) ∙ sym (from_other s.sheet b r c.in-Some.open d (track d b).row x c.if-open-row.false));
       row = ap (λ x. (track x b).row) v.ledger ∙ opened_one c.close_row.new.self.sheet e b r;
       few = omega (arith, u.few, v.few);
       gone = gone_is _ (gone_then [] u.gone v.gone refl) u.gone.went.cells;
