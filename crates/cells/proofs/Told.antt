@@ -6,7 +6,7 @@ use Rattle.std.proofs.lemmas.List.FromFn.{fill_by_all}
 use Rattle.std.proofs.lemmas.Bool.Decides.{nat_tests}
 use Rattle.rules.specs.declared.pins.BankName.TheVariants.{A, B}
 use Rattle.rules.specs.Words.{bit}
-use Rattle.cells.specs.Planes.{first, plane_bit, planed, byte_of, picture, Laid_out, Told, AllTold, SameBytes}
+use Rattle.cells.specs.Planes.{first, plane_bit, planed, byte_of, picture, LaidOut, Told, AllTold, SameBytes}
 use Rattle.cells.proofs.Bits.{bit_below, number_below, number_bit, same_bits}
 
 -- a row's home in the memory
@@ -25,7 +25,7 @@ bit_home rows bank row column i bytes hb hr hc hi =
     let p : first rows a + 64 * i ≡ 2048 * row + 64 * i + 32 * bank + column / 8 = omega (arith, h.2) in
     rw t (number_bit (plane_bit rows bytes a) 32 i (λ k. bit_below _ _) hi ∙ ap (λ (n : ℕ). bit (get_or bytes n 0) (a % 8)) p ∙ ap (bit _) h.1)
 
-pub laid_out : Laid_out
+pub laid_out : LaidOut
 laid_out rows row column i A bytes hr hc hi = bit_home rows 0 row column i bytes (omega arith) hr hc hi
 laid_out rows row column i B bytes hr hc hi = bit_home rows 1 row column i bytes (omega arith) hr hc hi
 

@@ -42,8 +42,8 @@ brushed at columns mask colour bytes (suc n) =
     (put (brush columns mask n) (ink colour n) (slice_index (brushed at columns mask colour bytes n) (at + 64 * n)))
 
 -- where bit i of a word lies: in the row's 2,048 bytes, plane i, there the bank's half, there the column
-abbrev pub Laid_out : Type 0
-Laid_out =
+abbrev pub LaidOut : Type 0
+LaidOut =
     (rows row column i : ℕ) (bank : BankName) (bytes : List ℕ) → row < rows → column < 256 → i < 32
     → bit (planed rows bytes (place rows bank row column)) i
     ≡ bit (slice_index bytes (2048 * row + 64 * i + 32 * bank_number bank + column / 8)) (column % 8)

@@ -1,6 +1,6 @@
 ghost use Rattle.std.specs.Prelude.{◌≡◌, ◌+◌, ◌*◌, ◌^◌, ◌<◌, length, slice_index};
 ghost use Rattle.rules.specs.Words.{bit};
-ghost use Rattle.cells.specs.Planes.{number, first, planed, brush, ink, brushed, Laid_out, Told, AllTold, SameBytes};
+ghost use Rattle.cells.specs.Planes.{number, first, planed, brush, ink, brushed, LaidOut, Told, AllTold, SameBytes};
 ghost use borrow.Author.Rules.{rules};
 
 use crate::layout::Layout;
@@ -105,7 +105,7 @@ impl Layout for Planes {
 
 // Which bit of the memory holds which bit of a word, and that the words tell each byte of their rows.
 pub fn planes_stand()
-    ensures bits { Laid_out }
+    ensures bits { LaidOut }
     ensures bytes { AllTold }
     ensures same { SameBytes }
 {}
