@@ -12,7 +12,7 @@ use Rattle.schedule.specs.Obeyed.{Brings}
 use Rattle.schedule.specs.Reading.{Readable, reading_command}
 use Rattle.schedule.specs.Ledger.{Timely}
 use Rattle.schedule.specs.Fit.{Reachable}
-use Rattle.schedule.specs.Stretch.{Went, span, at_clock, with_bus}
+use Rattle.schedule.specs.Stretch.{Went, span}
 use Rattle.schedule.specs.Budget.{Current}
 use Rattle.schedule.proofs.Chains.{stretch_is}
 use Rattle.schedule.proofs.Budgeting.{keeps_current}

@@ -1,5 +1,5 @@
 -- A test that passes at every number below n, computed one after the other.
-use Rattle.std.proofs.Common.{◌≡◌, ℕ, zero, suc, ◌%◌, ◌<◌, Bool, true, false, ◌&&◌, T, eqb, ltb, ◌⊎◌, List, [], ◌∷◌, get_or, sym, subst, inl, inr, ⊎_elim, le_of_suc-le-suc, not-suc-le-zero, mod-lt, eq-or-lt_of_le, arith, eqb→eq, leb→le}
+use Rattle.std.proofs.Common.{◌≡◌, ℕ, zero, suc, ◌%◌, ◌<◌, Bool, true, false, ◌&&◌, T, eqb, ltb, List, [], ◌∷◌, get_or, sym, subst, ⊎_elim, le_of_suc-le-suc, not-suc-le-zero, mod-lt, eq-or-lt_of_le, arith, eqb→eq, leb→le}
 use lib.Bits.{bit_xor}
 
 left : (a b : Bool) → T (a && b) → T a

@@ -1,5 +1,6 @@
 // Bursts, their beats, and what a beat does to the cells.
 #![tactic(auto)]
+
 mod columns;
 mod ongoing;
 mod work;

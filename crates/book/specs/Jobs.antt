@@ -1,5 +1,5 @@
 -- Jobs before and after they were served, as requests by their numbers.
-use Rattle.std.specs.Prelude.{◌≡◌, ℕ, List, map, Some, vec_items}
+use Rattle.std.specs.Prelude.{◌≡◌, List, map, Some, vec_items}
 use Rattle.book.specs.declared.request.Request.{Request}
 use Rattle.book.specs.declared.request.Request.TheVariants.{Read, Write, Fill, Wait}
 use Rattle.book.specs.declared.request.Job.{Job}

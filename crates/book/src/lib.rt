@@ -1,5 +1,6 @@
 // Requests, the book that is fed with them, and the law of their lists.
 #![tactic(auto)]
+
 mod laws;
 mod refusal;
 mod request;

@@ -1,5 +1,6 @@
 // Runs a pin trace on both devices, and on an interlock over each.
 #![tactic(auto)]
+
 mod report;
 
 use anyhow::anyhow;

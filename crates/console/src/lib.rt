@@ -1,5 +1,6 @@
 // What the programs over traces share: their input, and the line of a refusal.
 #![tactic(auto)]
+
 ghost use Rattle.std.specs.Prelude.{◌≡◌, IfOk, string_bytes};
 ghost use Rattle.std.specs.Option.{option_to_list};
 ghost use Rattle.trace.specs.Answer.{answer};

@@ -1,5 +1,5 @@
 -- Open rows stay below the sheet's rows.
-use Rattle.std.proofs.Common.{◌≡◌, ℕ, Bool, true, false, refl, rules}
+use Rattle.std.proofs.Common.{◌≡◌, ℕ, Bool, true, false, rules}
 use Rattle.sheet.specs.declared.sheet.Sheet.{Sheet}
 use Rattle.rules.specs.declared.pins.BankName.{BankName}
 use Rattle.rules.specs.declared.pins.Command.{Command}

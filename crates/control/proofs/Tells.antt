@@ -1,5 +1,5 @@
 -- What the command state's answer tells of a clock.
-use Rattle.std.proofs.Common.{◌≡◌, ℕ, Some, None, Ok, Err, Option, Result, refl, arith}
+use Rattle.std.proofs.Common.{◌≡◌, ℕ, Some, None, Ok, Err, Option, refl, arith}
 use Rattle.rules.specs.declared.pins.Pins.{Pins}
 use Rattle.rules.specs.declared.pins.Command.{Command}
 use Rattle.rules.specs.declared.fault.Rule.{Rule}

@@ -4,7 +4,6 @@ use native.Mathlib.Nat.{min-eq_left, min-le_left, min-le_right, mul-div-le}
 use lib.Bits.{bit_and}
 use Rattle.std.proofs.lemmas.List.{take_more, take_all}
 use Rattle.sheet.specs.declared.sheet.Sheet.{Sheet}
-use Rattle.sheet.specs.Admit.{numbers}
 use Rattle.sheet.specs.Lowered.{lowered}
 use Rattle.sheet.proofs.Same.{same_sheet}
 use Rattle.rules.specs.declared.pins.Pins.{Pins}

@@ -1,5 +1,6 @@
 // What a device is, and the two devices: one keeps words, one keeps bit planes.
 #![tactic(auto)]
+
 mod cell_device;
 mod device;
 mod lent;

@@ -1,5 +1,5 @@
 -- Words written in an open row.
-use Rattle.std.proofs.Common.{◌≡◌, ℕ, zero, suc, ◌+◌, ◌<◌, ◌≤◌, false, List, [], ◌∷◌, ◌++◌, length, get_or, take, sym, refl, ap, ◌∙◌, subst, add-zero, add-one, arith, length-take}
+use Rattle.std.proofs.Common.{◌≡◌, ℕ, zero, suc, ◌+◌, ◌<◌, ◌≤◌, false, List, [], ◌∷◌, length, get_or, take, sym, refl, ap, ◌∙◌, add-zero, add-one, arith, length-take}
 use Rattle.std.proofs.lemmas.List.{take_more}
 use Rattle.sheet.specs.declared.sheet.Sheet.{Sheet}
 use Rattle.rules.specs.declared.pins.BankName.{BankName}
@@ -16,7 +16,6 @@ use Rattle.schedule.specs.Stretch.{at_clock}
 use Rattle.schedule.specs.Writing.{all_written, wrote_at}
 use Rattle.schedule.proofs.Lines.{leaving_silent}
 use Rattle.schedule.proofs.Filling.{spreads}
-use Rattle.sequences.specs.Times.{waited}
 use Rattle.drawing.specs.Drawn.{with_writes}
 
 -- the row stays within reach

@@ -1,6 +1,7 @@
 // Words written and filled over a channel: registers, an open row, and runs over rows. They refuse nothing: each says
 // what it asks.
 #![tactic(auto)]
+
 mod aiming;
 mod filling;
 mod laws;

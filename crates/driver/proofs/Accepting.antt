@@ -1,10 +1,10 @@
 -- What a request that is not turned away keeps to.
-use Rattle.std.proofs.Common.{◌≡◌, ℕ, ◌+◌, ◌-◌, ◌*◌, ◌^◌, ◌<◌, ◌≤◌, Bool, true, false, cond, ◌||◌, eqb, ltb, leb, Some, None, Option, sym, refl, ap, ◌∙◌, subst, arith, ltb-false, leb-false}
+use Rattle.std.proofs.Common.{◌≡◌, ℕ, ◌+◌, ◌-◌, ◌*◌, ◌^◌, ◌≤◌, Bool, true, false, cond, ◌||◌, eqb, ltb, leb, Some, None, Option, refl, ap, arith, ltb-false, leb-false}
 use borrow.Author.Tests.{eqb-false}
 use Rattle.rules.specs.State.{is_some}
 use Rattle.driver.specs.declared.refusal.Refusal.{Refusal}
 use Rattle.driver.specs.declared.refusal.Refusal.TheVariants.{Address, Length, Count}
-use Rattle.driver.specs.Refused.{refusal, wait_refusal}
+use Rattle.driver.specs.Refused.{refusal}
 
 never : {X : Type 0} (r : Refusal) → Some r ≡ None → X
 never r e = let z : ◌≡◌ {A = ℕ} 1 0 = ap (λ o. cond (is_some o) 1 0) e in absurd (omega arith)

@@ -1,7 +1,6 @@
 -- A stretch of a channel, as its device's meaning tells it.
-use Rattle.std.proofs.Common.{◌≡◌, ℕ, ◌+◌, ◌≤◌, List, sym, refl, ap, ◌∙◌, subst, arith}
+use Rattle.std.proofs.Common.{◌≡◌, ℕ, ◌+◌, List, sym, ap, ◌∙◌}
 use Rattle.rules.specs.Meaning.{Meaning}
-use Rattle.schedule.specs.Stretch.{Stretch}
 use Rattle.schedule.proofs.Obeying.{says}
 use Rattle.sequences.specs.declared.channel.Channel.{Channel}
 use Rattle.sequences.specs.Gone.{Stands, Gone, passed}

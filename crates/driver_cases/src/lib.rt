@@ -1,5 +1,6 @@
 // Runs of the driver on a device.
 #![tactic(auto)]
+
 #[cfg(test)]
 mod reads;
 #[cfg(test)]

@@ -1,5 +1,5 @@
 -- What a request that is not turned away keeps to.
-use Rattle.std.proofs.Common.{◌≡◌, ℕ, ◌+◌, ◌-◌, ◌*◌, ◌^◌, ◌<◌, ◌≤◌, Bool, true, false, cond, ◌||◌, eqb, ltb, leb, Some, None, Option, refl, ap, arith, ltb-false}
+use Rattle.std.proofs.Common.{◌≡◌, ℕ, ◌+◌, ◌-◌, ◌*◌, ◌^◌, ◌≤◌, Bool, true, false, cond, ◌||◌, eqb, ltb, leb, Some, None, Option, refl, ap, arith, ltb-false}
 use borrow.Author.Tests.{eqb-false}
 use Rattle.rules.specs.State.{is_some}
 use Rattle.book.specs.declared.refusal.Refusal.{Refusal}

@@ -1,5 +1,5 @@
 -- A stretch of a channel, as an answer to a request.
-use Rattle.std.proofs.Common.{◌≡◌, ℕ, ◌+◌, List, None, sym, refl, ap, ◌∙◌, subst}
+use Rattle.std.proofs.Common.{◌≡◌, ℕ, List, None, sym, refl, ap, ◌∙◌}
 use Rattle.rules.specs.Meaning.{Meaning}
 use Rattle.schedule.proofs.Chains.{stretch_is}
 use Rattle.schedule.proofs.Obeying.{says}

@@ -1,5 +1,6 @@
 // A driver of one device: off, settled, ready, and the requests of a ready one.
 #![tactic(auto)]
+
 mod off;
 mod ready;
 mod requests;

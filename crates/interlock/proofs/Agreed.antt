@@ -14,7 +14,6 @@ use Rattle.rules.specs.Step.{moved, failed}
 use Rattle.rules.specs.Cells.{work_at, done, taken}
 use Rattle.rules.specs.Meaning.{Meaning, moves, shown, step, out, switch_on, run, outs}
 use Rattle.rules.proofs.Ways.{moved_by, way, way_held, way_failed, way_moved, step_held, step_failed, step_moved}
-use Rattle.interlock.specs.Alike.{Alike}
 use Rattle.interlock.specs.Agree.{Matched, Agree}
 use Rattle.interlock.proofs.Placed.{Placed, placed_on, placed_moved, SameWords, taken_same}
 

@@ -1,5 +1,6 @@
 // An interlock over any device, and the question whether two devices are alike.
 #![tactic(auto)]
+
 mod agreement;
 mod laws;
 mod layer;

@@ -1,5 +1,6 @@
 // Two banks in one table, and the tests by which a clock is judged.
 #![tactic(auto)]
+
 mod distances;
 mod places;
 mod table;

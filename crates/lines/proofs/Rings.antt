@@ -1,5 +1,5 @@
 -- The ring of marks as a list, oldest first.
-use Rattle.std.proofs.Common.{◌≡◌, ℕ, zero, suc, ◌+◌, ◌-◌, ◌<◌, ◌≤◌, List, [], ◌∷◌, ◌++◌, length, get_or, take, drop, set, replicate, Some, sym, refl, ap, ◌∙◌, subst, append_assoc, append-nil, not-suc-le-zero, add-one, arith, length-take, drop-cons, get_or-take, take-suc-set, drop-set-lt}
+use Rattle.std.proofs.Common.{◌≡◌, ℕ, suc, ◌+◌, ◌-◌, ◌<◌, ◌≤◌, List, [], ◌∷◌, ◌++◌, length, get_or, take, drop, set, replicate, Some, sym, refl, ap, ◌∙◌, subst, append_assoc, append-nil, add-one, arith, length-take, drop-cons, get_or-take, take-suc-set, drop-set-lt}
 use lib.Seq.{take-set-lt}
 use Rattle.std.proofs.lemmas.List.{drop_all}
 use Rattle.lines.specs.declared.marks.Lap.{Lap}

@@ -1,4 +1,4 @@
-use Rattle.std.specs.Prelude.{ℕ, ◌-◌, List, [], ◌∷◌, ◌++◌, take, drop, replicate}
+use Rattle.std.specs.Prelude.{ℕ, ◌-◌, List, [], ◌++◌, take, drop, replicate}
 use Rattle.lines.specs.declared.marks.Lap.{Lap}
 use Rattle.lines.specs.declared.marks.Lap.TheVariants.{Unset, First, Later}
 use Rattle.lines.specs.declared.marks.Marks.{Marks}

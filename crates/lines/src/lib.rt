@@ -1,5 +1,6 @@
 // What a device remembers of the past: distances from events, delay lines, refresh marks.
 #![tactic(auto)]
+
 mod delay;
 mod laws;
 mod marks;

@@ -1,7 +1,7 @@
 -- The whole listing of a text.
 use Rattle.std.specs.Prelude.{ℕ, ◌+◌, List, [], ◌∷◌, ◌++◌, Ok, Err, codes, decimal, slice_index}
 use Rattle.rules.specs.declared.pins.Pins.{Pins}
-use Rattle.rules.specs.Pins.{command, dqm_of}
+use Rattle.rules.specs.Pins.{command}
 use Rattle.trace.specs.Answer.{Reply}
 use Rattle.trace.specs.Text.{trace_of}
 use Rattle.listing.specs.Words.{hex, command_text}

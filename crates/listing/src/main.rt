@@ -1,5 +1,6 @@
 // Lists a pin trace that standard input holds: its sheet, then its commands clock by clock.
 #![tactic(auto)]
+
 mod page;
 mod words;
 

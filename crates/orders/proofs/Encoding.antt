@@ -1,20 +1,18 @@
 -- A command's pins bring it.
-use Prim.Native.Nat.{ℕ, ◌+◌, ◌*◌, ◌/◌, ◌%◌, ◌^◌, ◌≤◌, ◌<◌}
-use mathlib.Core.Path.{◌≡◌, refl, ap, ◌∙◌}
-use mathlib.Core.Bool.{Bool, true, false, cond}
+use Prim.Native.Nat.{ℕ, ◌+◌, ◌/◌, ◌%◌, ◌<◌}
+use mathlib.Core.Path.{◌≡◌, refl, ap}
+use mathlib.Core.Bool.{Bool, true, false}
 use lib.Dec.{eqb}
 use native.Mathlib.Omega.{arith}
 use Rattle.rules.specs.declared.pins.BankName.{BankName}
 use Rattle.rules.specs.declared.pins.BankName.TheVariants.{A, B}
-use Rattle.rules.specs.declared.pins.Access.{Access}
 use Rattle.rules.specs.declared.pins.Access.TheVariants.{Read, Write, Block}
 use Rattle.rules.specs.declared.pins.Command.{Command}
 use Rattle.rules.specs.declared.pins.Command.TheVariants.{Inhibit, Nop, Stop, Column, Activate, Precharge, Refresh, LoadMode, LoadSpecial}
 use Rattle.rules.specs.Pins.{eighth}
-use Rattle.schedule.specs.Obeyed.{Brings}
 use Rattle.schedule.specs.Reading.{at_bank}
-use Rattle.schedule.proofs.Decodes.{bank_is, row_is}
-use Rattle.orders.specs.Signals.{at_8, pins_of, Encodable, Encodes}
+use Rattle.schedule.proofs.Decodes.{bank_is}
+use Rattle.orders.specs.Signals.{at_8, pins_of, Encodes}
 
 small : (h : Bool) (c : ℕ) → c < 256 → at_8 h + c < 512
 small true c q = omega arith

@@ -1,5 +1,6 @@
 // A command as pins, and what a command leaves in a driver's ledger.
 #![tactic(auto)]
+
 mod noting;
 mod signals;
 

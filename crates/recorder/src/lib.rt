@@ -1,5 +1,6 @@
 // A device that keeps the pins that it was given.
 #![tactic(auto)]
+
 mod keeping;
 mod record;
 

@@ -1,5 +1,5 @@
 -- A delay line of elements of any kind, oldest first: what enters it leaves after as many clocks as it is long.
-use Rattle.std.specs.Prelude.{Bool, true, false, ◌||◌, List, [], ◌∷◌, ◌++◌}
+use Rattle.std.specs.Prelude.{Bool, false, ◌||◌, List, [], ◌∷◌, ◌++◌}
 
 -- what leaves at this clock
 abbrev pub leaving {ℓ} : {X : Type ℓ} → X → List X → X

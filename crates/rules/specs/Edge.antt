@@ -9,8 +9,8 @@ use Rattle.rules.specs.Beat.{column}
 use Rattle.rules.specs.declared.fault.Fault.{Fault}
 use Rattle.rules.specs.declared.fault.Rule.{Rule}
 use Rattle.rules.specs.declared.fault.Rule.TheVariants.{RowTime, Misplaced, Distance}
-use Rattle.rules.specs.Meaning.{Meaning, run, outs}
-use Rattle.rules.specs.Cases.{L, H, line, nop, bst, pre_both, ref, lmr, load_mask, load_colour, act, actm, rd, wr, bw, small, device, power_up}
+use Rattle.rules.specs.Meaning.{run, outs}
+use Rattle.rules.specs.Cases.{L, H, line, nop, bst, pre_both, load_mask, load_colour, act, actm, rd, wr, bw, small, device, power_up}
 
 abbrev pub quick : Sheet
 quick = small 1 1 5120 (lit≤ tt, lit≤ tt) (lit≤ tt, lit≤ tt) (lit≤ tt, lit≤ tt)

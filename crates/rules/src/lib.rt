@@ -1,5 +1,6 @@
 // The pins, the commands that they bring, and the parts of a device's state; specs/ has the whole meaning of a device.
 #![tactic(auto)]
+
 mod bank;
 mod decoder;
 mod edges;

@@ -1,5 +1,6 @@
 // The laws that a driver's proof rests on, over the meaning of a device.
 #![tactic(auto)]
+
 mod laws;
 mod ledger;
 

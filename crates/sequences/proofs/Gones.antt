@@ -1,17 +1,17 @@
 -- Stretches of clocks of a channel, put together.
-use Rattle.std.proofs.Common.{◌≡◌, ℕ, ◌+◌, ◌-◌, ◌/◌, ◌^◌, ◌<◌, ◌≤◌, max, List, [], ◌++◌, None, Option, sym, refl, ap, ◌∙◌, subst, arith}
+use Rattle.std.proofs.Common.{◌≡◌, ℕ, ◌+◌, ◌≤◌, List, [], ◌++◌, None, sym, refl, ap, ◌∙◌, subst, arith}
 use Rattle.sheet.specs.declared.sheet.Sheet.{Sheet}
 use Rattle.rules.specs.declared.pins.Pins.{Pins}
 use Rattle.rules.specs.declared.pins.Command.{Command}
 use Rattle.rules.specs.Meaning.{Meaning, step}
 use Rattle.schedule.specs.declared.ledger.Ledger.{Ledger}
 use Rattle.schedule.specs.Line.{silent}
-use Rattle.schedule.specs.Ledger.{Timely, next, period}
+use Rattle.schedule.specs.Ledger.{Timely, next}
 use Rattle.schedule.specs.Fit.{Fit}
 use Rattle.schedule.specs.After.{after, stored, asked}
 use Rattle.schedule.specs.Obeyed.{Brings}
 use Rattle.schedule.specs.Stretch.{Rests, Went, at_clock}
-use Rattle.schedule.specs.Budget.{Within, Current, Budgets}
+use Rattle.schedule.specs.Budget.{Current, Budgets}
 use Rattle.schedule.proofs.Chains.{went_none, went_then}
 use Rattle.schedule.proofs.Singles.{gives}
 use Rattle.schedule.proofs.Budgeting.{budgets, keeps_current, goes_on}

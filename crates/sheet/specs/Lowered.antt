@@ -1,5 +1,5 @@
 -- A sheet with fewer rows, and when two sheets are the same.
-use Rattle.std.specs.Prelude.{◌≡◌, ℕ, ◌≤◌, min}
+use Rattle.std.specs.Prelude.{◌≡◌, ℕ, min}
 use Rattle.std.proofs.Common.{le_trans}
 use Rattle.std.proofs.Math.Nat.{min-le_left}
 use Rattle.sheet.specs.declared.sheet.Sheet.{Sheet}

@@ -1,5 +1,6 @@
 // The timing sheet of a part: thirteen numbers whose ranges the type carries.
 #![tactic(auto)]
+
 mod admit;
 mod lowered;
 mod sheet;

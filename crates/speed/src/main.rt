@@ -1,6 +1,7 @@
 // Replays a trace many times on a device, for measuring: args are the device, `words` or `planes`, and the rounds; the
 // trace comes on standard input. Prints the clocks and a sum over all that was driven.
 #![tactic(auto)]
+
 mod rounds;
 
 use anyhow::Context;

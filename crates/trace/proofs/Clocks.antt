@@ -1,10 +1,10 @@
 -- In a well-formed body piece k gives the pins at clock k.
-use Rattle.std.proofs.Common.{◌≡◌, ℕ, zero, suc, ◌+◌, ◌-◌, ◌*◌, ◌/◌, ◌<◌, ◌≤◌, List, [], ◌∷◌, length, take, drop, Some, None, Ok, Err, Option, sym, refl, ap, ◌∙◌, mul-suc, arith}
+use Rattle.std.proofs.Common.{◌≡◌, ℕ, zero, suc, ◌+◌, ◌*◌, ◌/◌, ◌<◌, List, [], ◌∷◌, length, take, drop, Some, None, Ok, Err, Option, refl, arith}
 use Rattle.std.specs.List.{slice_get}
-use Rattle.std.proofs.lemmas.List.{length-take, length-drop, drop-drop, nil_from_length, drop_all}
+use Rattle.std.proofs.lemmas.List.{length-take, length-drop, drop-drop}
 use Rattle.std.proofs.lemmas.Bool.{ne_eqb}
 use Rattle.rules.specs.declared.pins.Pins.{Pins}
-use Rattle.trace.specs.Answer.{Reply, on}
+use Rattle.trace.specs.Answer.{Reply}
 use Rattle.trace.specs.Clock.{pins_of}
 use Rattle.trace.specs.Body.{cut, piece, joined, read, clocks_of}
 

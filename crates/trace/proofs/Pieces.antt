@@ -1,12 +1,12 @@
 -- The pieces of a body, one by one.
-use Rattle.std.proofs.Common.{◌≡◌, ℕ, suc, ◌+◌, ◌*◌, ◌/◌, ◌<◌, ◌≤◌, min, true, false, List, [], ◌∷◌, ◌++◌, length, take, drop, is_some, Some, None, Ok, Err, Option, sym, refl, ap, ◌∙◌, inl, inr, add-zero, zero-add, arith}
+use Rattle.std.proofs.Common.{◌≡◌, ℕ, suc, ◌+◌, ◌/◌, ◌<◌, ◌≤◌, min, true, false, List, [], ◌∷◌, ◌++◌, length, take, drop, is_some, Some, None, Ok, Err, Option, sym, refl, ap, ◌∙◌, inl, inr, add-zero, zero-add, arith}
 use Rattle.std.proofs.lemmas.List.{length-append, append-nil, take_at, take_all, drop_at, drop_all, nil_from_length}
 use Rattle.std.proofs.lemmas.Bool.{cases_lt, true≢false}
 use Rattle.rules.specs.declared.pins.Pins.{Pins}
 use Rattle.trace.specs.declared.refusal.Refusal.TheVariants.{IllFormedLine}
 use Rattle.trace.specs.Answer.{Reply, answer, on}
 use Rattle.trace.specs.Clock.{pins_of}
-use Rattle.trace.specs.Body.{cut, pieces, joined, read, listed}
+use Rattle.trace.specs.Body.{pieces, joined, read, listed}
 
 -- a piece, and the bytes behind it
 pub pieces_more : (bs line rest : List ℕ) → bs ≡ line ++ rest → length line ≡ min 21 (length bs) → 0 < length bs → pieces bs ≡ line ∷ pieces rest

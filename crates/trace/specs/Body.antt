@@ -1,5 +1,5 @@
 -- The clock lines: the text behind the sheet line, cut into pieces of 21 bytes.
-use Rattle.std.specs.Prelude.{ℕ, zero, suc, ◌+◌, ◌*◌, ◌/◌, List, [], ◌∷◌, length, take, drop, Some, None, Ok, Err, Option, Result}
+use Rattle.std.specs.Prelude.{ℕ, zero, suc, ◌+◌, ◌*◌, ◌/◌, List, [], ◌∷◌, length, take, drop, Some, None, Ok, Err, Option}
 use Rattle.rules.specs.declared.pins.Pins.{Pins}
 use Rattle.trace.specs.declared.refusal.Refusal.TheVariants.{IllFormedLine}
 use Rattle.trace.specs.Answer.{Reply, answer, on}

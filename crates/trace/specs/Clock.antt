@@ -1,5 +1,5 @@
 -- A clock line: five levels, a DQM digit, three address digits and eight DQ digits, parted by tabs and ended by LF.
-use Rattle.std.specs.Prelude.{ℕ, Bool, cond, ◌&&◌, List, [], ◌∷◌, length, Some, None, Option, ◌==◌, nat_le, slice_index}
+use Rattle.std.specs.Prelude.{ℕ, Bool, cond, ◌&&◌, List, length, Some, None, Option, ◌==◌, nat_le, slice_index}
 use Rattle.rules.specs.declared.pins.Level.{Level}
 use Rattle.rules.specs.declared.pins.Level.TheVariants.{Low, High}
 use Rattle.rules.specs.declared.pins.Pins.{Pins}

@@ -1,21 +1,19 @@
 -- The case of a text, test by test.
-use Rattle.std.proofs.Common.{◌≡◌, ℕ, ◌+◌, ◌-◌, ◌*◌, ◌^◌, ◌<◌, ◌≤◌, Bool, true, false, cond, leb, List, length, get_or, take, drop, is_err, Ok, Err, Result, sym, refl, ap, ◌∙◌, subst, arith, length-drop}
+use Rattle.std.proofs.Common.{◌≡◌, ℕ, ◌+◌, ◌-◌, ◌*◌, ◌<◌, ◌≤◌, Bool, true, false, cond, leb, List, length, get_or, take, drop, is_err, Ok, Err, Result, refl, ap, arith, length-drop}
 use Rattle.std.proofs.lemmas.List.{take_rest}
 use Rattle.std.proofs.lemmas.Bool.Decides.{nat_tests}
 use Rattle.sheet.specs.Admit.{numbers}
-use Rattle.rules.specs.declared.pins.Pins.{Pins}
 use Rattle.device.specs.declared.memory.MemoryError.{MemoryError}
 use Rattle.device.specs.Memory as memory
 use Rattle.trace.specs.declared.text.Trace.{Trace}
 use Rattle.trace.specs.declared.refusal.Refusal.{Refusal}
-use Rattle.trace.specs.declared.refusal.Refusal.TheVariants.{ShortMemory, ShortOutput}
-use Rattle.trace.specs.Answer.{Reply, answer, on, then}
+use Rattle.trace.specs.declared.refusal.Refusal.TheVariants.{ShortOutput}
+use Rattle.trace.specs.Answer.{answer, on}
 use Rattle.trace.specs.Opening.{heading_of}
 use Rattle.trace.specs.Body.{clocks, clocks_of}
-use Rattle.verdict.specs.Sheets.{sheet_of}
-use Rattle.verdict.specs.Judged.{Case, case_of, planes_for, output_for, Fit, Unfit}
+use Rattle.verdict.specs.Judged.{Fit, Unfit}
 use Rattle.verdict.proofs.Exact.{sheet_exact}
-use Rattle.verdict.proofs.Refused.{place, on_err, heading_place, heading_limit, clocks_place, clocks_length}
+use Rattle.verdict.proofs.Refused.{on_err, heading_place, heading_limit, clocks_place, clocks_length}
 
 -- memory that passes the check holds the rows
 enough : (b : Bool) → ◌≡◌ {A = ℕ} 0 (cond b 0 3) → b ≡ true

@@ -1,16 +1,16 @@
 -- The answer, the planes and the output after a text.
-use Rattle.std.proofs.Common.{◌≡◌, ℕ, ◌*◌, List, ◌++◌, length, drop, Ok, Err, sym, refl, ap, ◌∙◌, subst}
+use Rattle.std.proofs.Common.{◌≡◌, ℕ, ◌*◌, List, ◌++◌, drop, Ok, Err, sym, refl, ap, ◌∙◌}
 use Rattle.sheet.specs.declared.sheet.Sheet.{Sheet}
 use Rattle.rules.specs.Meaning.{Meaning, run}
 use Rattle.rules.proofs.Runs.{run_sheet}
 use Rattle.cells.specs.Planes.{picture}
 use Rattle.trace.specs.declared.text.Trace.{Trace}
 use Rattle.trace.specs.declared.refusal.Refusal.{Refusal}
-use Rattle.trace.specs.Answer.{Reply, answer, on}
+use Rattle.trace.specs.Answer.{answer}
 use Rattle.trace.specs.Body.{clocks}
 use Rattle.verdict.specs.Wrote.{Wrote}
 use Rattle.verdict.specs.Page.{page}
-use Rattle.verdict.specs.Judged.{Said, said, case_of, judged, written, planes_after, output_after, start, Fit, Unfit}
+use Rattle.verdict.specs.Judged.{judged, written, planes_after, output_after, start, Fit, Unfit}
 use Rattle.verdict.proofs.Joins.{wrote_all}
 
 pub refused : (text : List ℕ) (p o : ℕ) (e : Refusal) (planes out : List ℕ) → Unfit text p o e

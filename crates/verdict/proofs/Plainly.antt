@@ -1,8 +1,7 @@
 -- An answer in plain numbers.
-use Rattle.std.proofs.Common.{◌≡◌, ℕ, List, [], ◌∷◌, length, get_or, Some, None, Ok, Err, Option, unwrap_or, sym, refl, ap, ◌∙◌, arith}
+use Rattle.std.proofs.Common.{◌≡◌, ℕ, List, length, get_or, Some, None, Ok, Err, Option, unwrap_or, ap, ◌∙◌, arith}
 use Rattle.std.specs.Option.{option_to_list}
 use Rattle.trace.specs.Answer.{Reply}
-use Rattle.verdict.specs.declared.host.Verdict.{Verdict}
 use Rattle.verdict.specs.Judged.{Said, written}
 use Rattle.verdict.specs.Plain.{plain}
 

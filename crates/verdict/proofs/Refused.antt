@@ -1,7 +1,7 @@
 -- Texts that are refused, and how large the place or the line beside the number can be.
-use Rattle.std.proofs.Common.{◌≡◌, ℕ, zero, suc, ◌+◌, ◌-◌, ◌*◌, ◌/◌, ◌^◌, ◌<◌, ◌≤◌, Bool, true, false, cond, eqb, ltb, leb, ◌⊎◌, List, [], ◌∷◌, length, get_or, drop, Some, None, Ok, Err, Option, sym, refl, ap, ◌∙◌, subst, inl, inr, ⊎_elim, arith}
+use Rattle.std.proofs.Common.{◌≡◌, ℕ, zero, suc, ◌+◌, ◌/◌, ◌<◌, ◌≤◌, Bool, true, false, cond, eqb, ltb, ◌⊎◌, List, [], ◌∷◌, length, get_or, drop, Some, None, Ok, Err, Option, sym, refl, ap, ◌∙◌, inl, inr, ⊎_elim, arith}
 use Rattle.std.proofs.lemmas.Bool.Decides.{nat_tests}
-use Rattle.sheet.specs.Admit.{ranges, refusal, out_of, some_of, checked, verdict}
+use Rattle.sheet.specs.Admit.{ranges, refusal, out_of, checked, verdict}
 use Rattle.sheet.specs.declared.admit.SheetError.TheVariants.{OutOfRange, RoundTooLong}
 use Rattle.rules.specs.declared.pins.Pins.{Pins}
 use Rattle.trace.specs.declared.refusal.Refusal.TheVariants.{TextTooLong, NoSheet, IllFormedLine}

@@ -1,10 +1,9 @@
 -- One clock more of a list.
-use Rattle.std.proofs.Common.{◌≡◌, ℕ, zero, suc, ◌+◌, ◌<◌, ◌≤◌, List, [], ◌∷◌, ◌++◌, length, take, Some, None, sym, refl, ap, ◌∙◌, append_assoc, append-nil, zero-add, add-one, arith}
+use Rattle.std.proofs.Common.{◌≡◌, ℕ, zero, suc, ◌+◌, ◌<◌, ◌≤◌, List, [], ◌∷◌, ◌++◌, length, take, Some, None, sym, ap, ◌∙◌, append_assoc, append-nil, zero-add, add-one, arith}
 use Rattle.std.specs.List.{slice_get}
 use Rattle.std.proofs.lemmas.List.{take_all}
 use Rattle.rules.specs.declared.pins.Pins.{Pins}
 use Rattle.rules.specs.Meaning.{Meaning, step, out, run, outs}
-use Rattle.rules.proofs.Runs.{run_join}
 use Rattle.verdict.specs.Page.{clock_text, clocks_text}
 
 pub nth_none : (ps : List Pins) (k : ℕ) → k < length ps → None ≡ slice_get ps k → ⊥

@@ -1,13 +1,10 @@
 -- The verdict of each trace that is judged.
-use Rattle.std.proofs.Common.{◌≡◌, ℕ, ◌+◌, ◌*◌, ◌^◌, ◌<◌, ◌≤◌, true, leb, ◌⊎◌, List, [], ◌∷◌, ◌++◌, length, drop, IfSome, Some, None, Ok, Err, Option, sym, refl, ap, ◌∙◌, subst, inl, inr, append_assoc, arith, length-drop}
+use Rattle.std.proofs.Common.{◌≡◌, ℕ, ◌+◌, ◌*◌, ◌<◌, true, leb, List, ◌∷◌, ◌++◌, length, drop, IfSome, Some, None, Ok, Err, Option, sym, refl, ap, ◌∙◌, inl, inr, append_assoc, arith, length-drop}
 use Rattle.std.proofs.lemmas.Bool.Decides.{nat_tests}
-use Rattle.sheet.specs.declared.sheet.Sheet.{Sheet}
 use Rattle.sheet.specs.Admit.{numbers}
 use Rattle.rules.specs.declared.pins.Pins.{Pins}
 use Rattle.rules.specs.declared.fault.Fault.{Fault}
 use Rattle.rules.specs.Rule.{number_of}
-use Rattle.rules.specs.Pins.{command}
-use Rattle.rules.specs.Faults.{found}
 use Rattle.rules.specs.Meaning.{Meaning, step, run, outs}
 use Rattle.rules.specs.Laws.{Broken}
 use Rattle.rules.proofs.Runs.{run_join, run_sound, step_sound, first_fault, fault_lasts}
@@ -16,7 +13,7 @@ use Rattle.trace.specs.Opening.{heading_of}
 use Rattle.trace.specs.Body.{clocks_of}
 use Rattle.trace.specs.Text.{trace_of}
 use Rattle.verdict.specs.Page.{clocks_text, bank_line, verdict_line, page}
-use Rattle.verdict.specs.Judged.{Case, start, said, case_of, judged}
+use Rattle.verdict.specs.Judged.{start, said, case_of}
 use Rattle.verdict.specs.Stands.{Clean, last_line, Ends, VerdictStands}
 use Rattle.verdict.proofs.Exact.{sheet_exact}
 use Rattle.verdict.proofs.Pages.{fault_early}

@@ -1,5 +1,5 @@
 -- The judge's answer in plain numbers.
-use Rattle.std.specs.Prelude.{ℕ, length, Ok, Err, slice_index}
+use Rattle.std.specs.Prelude.{length, Ok, Err, slice_index}
 use Rattle.trace.specs.Answer.{Reply}
 use Rattle.verdict.specs.declared.host.Verdict.{Verdict}
 use Rattle.verdict.specs.Judged.{Said}

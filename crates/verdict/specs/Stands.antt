@@ -11,7 +11,7 @@ use Rattle.rules.specs.Meaning.{Meaning, run}
 use Rattle.rules.specs.Laws.{Broken}
 use Rattle.trace.specs.Text.{trace_of}
 use Rattle.verdict.specs.Page.{ok_line, fault_line}
-use Rattle.verdict.specs.Judged.{start, planes_for, output_for, Said, said, judged}
+use Rattle.verdict.specs.Judged.{start, planes_for, output_for, Said, judged}
 
 -- no clock breaks a rule
 abbrev pub Clean : Meaning → List Pins → Type 0

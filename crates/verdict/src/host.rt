@@ -1,4 +1,4 @@
-// The judge for a host in C.
+// The judge for a host in C; the crate `verdict_c` exports it.
 ghost use Rattle.std.specs.Prelude.{◌≡◌, length};
 ghost use Rattle.verdict.specs.Judged.{judged, planes_after, output_after};
 ghost use Rattle.verdict.specs.Plain.{plain};
@@ -18,8 +18,7 @@ pub struct Verdict {
 }
 
 // The same as `judge`, in plain numbers.
-#[unsafe(no_mangle)]
-pub extern "C" fn sgram_judge(text: &[u8], planes: &mut [u8], out: &mut [u8]) -> Verdict
+pub fn sgram_judge(text: &[u8], planes: &mut [u8], out: &mut [u8]) -> Verdict
     ensures answer { result ≡ plain (judged text.now (length planes.old) (length out.old)) }
     ensures planes { planes.new ≡ planes_after (judged text.now (length planes.old) (length out.old)) planes.old }
     ensures out { out.new ≡ output_after (judged text.now (length planes.old) (length out.old)) out.old }

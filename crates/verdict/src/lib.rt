@@ -1,5 +1,6 @@
 // The judge: what it says of any text, over plane memory and an output that a host lends.
 #![tactic(auto)]
+
 mod clocking;
 mod examined;
 mod host;

@@ -1,8 +1,8 @@
-use Rattle.std.proofs.Common.{◌≡◌, ℕ, suc, ◌+◌, ◌-◌, ◌<◌, ◌≤◌, Bool, true, false, cond, List, [], ◌∷◌, ◌++◌, length, take, sym, refl, ap, ◌∙◌, subst, add-zero, arith, take_all}
+use Rattle.std.proofs.Common.{◌≡◌, ◌+◌, ◌-◌, length, take, sym, refl, ap, ◌∙◌, subst, add-zero, arith, take_all}
 use Rattle.schedule.specs.After.{address}
 use Rattle.schedule.specs.Obeyed.{Brings}
 use Rattle.schedule.specs.Stretch.{at_clock, span}
-use Rattle.schedule.specs.Reading.{HalfRead, ReadOn, reading_command}
+use Rattle.schedule.specs.Reading.{HalfRead, reading_command}
 use Rattle.schedule.proofs.Readings.{bus_kept}
 use Rattle.schedule.proofs.Halves.{half_begins, half_on, half_ends}
 use Rattle.accesses.specs.Rows.{kept_for, with_read}

@@ -1,4 +1,4 @@
-use Rattle.std.proofs.Common.{◌≡◌, ℕ, ◌+◌, ◌-◌, ◌≤◌, length, take}
+use Rattle.std.proofs.Common.{◌≡◌, ◌+◌, ◌-◌, length, take}
 use Rattle.schedule.specs.After.{address}
 use Rattle.schedule.specs.Stretch.{at_clock, span}
 use Rattle.schedule.specs.Reading.{HalfRead}

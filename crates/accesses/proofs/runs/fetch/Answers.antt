@@ -1,10 +1,9 @@
-use Rattle.std.proofs.Common.{◌≡◌, ℕ, ◌+◌, ◌-◌, ◌%◌, ◌<◌, ◌≤◌, true, false, cond, leb, List, [], ◌++◌, length, take, drop, sym, refl, ap, ◌∙◌, subst, append-nil, arith, length-append, length-drop, length-take, le-leb}
+use Rattle.std.proofs.Common.{◌≡◌, ℕ, ◌+◌, ◌-◌, ◌%◌, true, false, cond, leb, List, [], ◌++◌, length, take, drop, sym, ap, ◌∙◌, append-nil, arith, length-append, length-drop, length-take, le-leb}
 use borrow.Author.Tests.{lt-leb}
 use borrow.Rule.Slice.PartMut.{put_mid}
 use Rattle.std.proofs.lemmas.List.{take_at, drop_all}
 use Rattle.schedule.specs.Stretch.{span}
 use Rattle.schedule.proofs.Filling.{spreads}
-use Rattle.sequences.specs.Gone.{Gone}
 use Rattle.sequences.proofs.Gones.{gone_then, gone_is}
 use Rattle.accesses.specs.Rows.{with_row_read}
 use Rattle.accesses.proofs.runs.fetch.Goals as goal

@@ -1,11 +1,8 @@
-use Rattle.std.proofs.Common.{◌≡◌, ℕ, ◌+◌, ◌*◌, ◌%◌, ◌<◌, ◌≤◌, [], length, sym, refl, ap, ◌∙◌, subst, arith}
+use Rattle.std.proofs.Common.{◌≡◌, ◌+◌, ◌<◌, length, sym, refl, ap, ◌∙◌, subst, arith}
 use Rattle.rules.specs.Cells.{place}
-use Rattle.schedule.specs.Ledger.{Timely, track}
 use Rattle.schedule.specs.After.{address, row_number}
-use Rattle.schedule.specs.Fit.{Reachable}
 use Rattle.schedule.specs.Stretch.{span}
 use Rattle.schedule.specs.Reading.{Readable}
-use Rattle.schedule.specs.Places.{bank_of, row_of}
 use Rattle.schedule.proofs.Readings.{timely_before}
 use Rattle.schedule.proofs.Lying.{lies}
 use Rattle.sequences.proofs.Gones.{gone_then, gone_is, stands_of}

@@ -1,4 +1,4 @@
-use Rattle.std.proofs.Common.{◌≡◌, ◌*◌, List, drop, sym, ap, ◌∙◌, subst, rules}
+use Rattle.std.proofs.Common.{◌≡◌, ◌*◌, drop, ap, ◌∙◌, subst, rules}
 use Rattle.rules.specs.Meaning.{Meaning, run}
 use Rattle.lines.specs.Line.{line}
 use Rattle.control.specs.View.{state_of}

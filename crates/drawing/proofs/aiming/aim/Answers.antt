@@ -1,4 +1,4 @@
-use Rattle.std.proofs.Common.{◌≡◌, ℕ, ◌+◌, ◌-◌, ◌*◌, ◌%◌, ◌<◌, ◌≤◌, max, false, [], Some, sym, refl, ap, ◌∙◌, subst, arith}
+use Rattle.std.proofs.Common.{◌≡◌, ◌-◌, max, false, [], Some, sym, refl, ap, ◌∙◌, subst, arith}
 use Rattle.rules.specs.Cells.{place}
 use Rattle.schedule.specs.Ledger.{track}
 use Rattle.schedule.specs.Fit.{Reachable}

@@ -1,4 +1,4 @@
-use Rattle.std.proofs.Common.{ℕ, ◌^◌, ◌≤◌, arith, pow_pos, pow_mono}
+use Rattle.std.proofs.Common.{◌^◌, ◌≤◌, arith, pow_mono}
 use Rattle.drawing.proofs.Fills.{power_small}
 use Rattle.drawing.proofs.filling.columns.Goals as goal
 

@@ -1,4 +1,4 @@
-use Rattle.std.proofs.Common.{◌≡◌, ℕ, ◌+◌, ◌*◌, ◌%◌, ◌≤◌, [], sym, refl, ap, ◌∙◌, subst, arith}
+use Rattle.std.proofs.Common.{◌≡◌, ℕ, ◌%◌, [], refl, ap, ◌∙◌, arith}
 use Rattle.schedule.specs.After.{address}
 use Rattle.schedule.specs.Spread.{spread}
 use Rattle.sequences.proofs.Gones.{gone_then, gone_is}

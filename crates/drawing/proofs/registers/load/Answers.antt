@@ -1,4 +1,4 @@
-use Rattle.std.proofs.Common.{◌≡◌, ℕ, ◌+◌, ◌<◌, ◌≤◌, max, sym, refl, ap, ◌∙◌, subst, arith}
+use Rattle.std.proofs.Common.{◌+◌, ◌<◌, max, sym, refl, subst, arith}
 use Rattle.schedule.specs.Line.{silent}
 use Rattle.schedule.specs.Fit.{Loadable}
 use Rattle.schedule.proofs.Readings.{timely_before}

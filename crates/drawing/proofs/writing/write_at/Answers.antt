@@ -1,4 +1,4 @@
-use Rattle.std.proofs.Common.{◌≡◌, ℕ, ◌+◌, ◌≤◌, [], length, refl, ap, ◌∙◌, arith}
+use Rattle.std.proofs.Common.{◌≡◌, [], length, refl, ap, ◌∙◌, arith}
 use Rattle.schedule.specs.After.{address}
 use Rattle.schedule.specs.Writing.{all_written}
 use Rattle.sequences.proofs.Gones.{gone_then, gone_is}

@@ -1,4 +1,4 @@
-use Rattle.std.proofs.Common.{◌≡◌, ℕ, ◌+◌, ◌<◌, ◌≤◌, false, [], length, get_or, take, sym, refl, ap, ◌∙◌, subst, arith, take_all}
+use Rattle.std.proofs.Common.{◌≡◌, ℕ, ◌+◌, false, [], length, get_or, take, sym, refl, ap, ◌∙◌, subst, arith, take_all}
 use Rattle.rules.specs.declared.pins.Access.TheVariants.{Write}
 use Rattle.rules.specs.declared.pins.Command.{Command}
 use Rattle.rules.specs.declared.pins.Command.TheVariants.{Column}

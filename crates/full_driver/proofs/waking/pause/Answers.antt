@@ -1,5 +1,5 @@
-use Rattle.std.proofs.Common.{◌≡◌, replicate, sym, refl, ap, ◌∙◌, subst, arith}
-use Rattle.rules.specs.Meaning.{run, step}
+use Rattle.std.proofs.Common.{sym, ◌∙◌}
+use Rattle.rules.specs.Meaning.{step}
 use Rattle.rules.specs.Cases.{nop}
 use Rattle.schedule.proofs.Chains.{run_more}
 use Rattle.full_driver.proofs.waking.pause.Goals as goal

@@ -1,7 +1,6 @@
-use Rattle.std.proofs.Common.{◌≡◌, ℕ, ◌-◌, ◌*◌, ◌%◌, replicate, sym, refl, ap, ◌∙◌, subst, arith}
-use Rattle.rules.specs.declared.pins.Pins.{Pins}
+use Rattle.std.proofs.Common.{◌≡◌, ◌-◌, ◌*◌, ◌%◌, replicate, ap, ◌∙◌, arith}
 use Rattle.rules.specs.Meaning.{Meaning, step, run}
-use Rattle.rules.specs.Cases.{nop, pre_both, lmr, ref}
+use Rattle.rules.specs.Cases.{nop, lmr, ref}
 use Rattle.schedule.specs.Waking.{mode_code}
 use Rattle.full_driver.proofs.Waked.{primed_by}
 use Rattle.full_driver.proofs.waking.wake.Goals as goal

@@ -1,4 +1,4 @@
-use Rattle.std.proofs.Common.{◌≡◌, ℕ, List, vec_items, sym, refl, ap, ◌∙◌, subst}
+use Rattle.std.proofs.Common.{vec_items, ◌∙◌}
 use Rattle.verdict.specs.Judged.{judged}
 use Rattle.judge.proofs.Texts.{output_read, refusal_read, made_as}
 use Rattle.judge.proofs.answers.answer.Goals as goal

@@ -1,4 +1,4 @@
-use Rattle.std.proofs.Common.{◌≡◌, ℕ, ◌<◌, ◌≤◌, List, [], length, get_or, refl, ap, ◌∙◌, arith}
+use Rattle.std.proofs.Common.{◌≡◌, ℕ, List, length, get_or, refl, ap, ◌∙◌, arith}
 use Rattle.sheet.specs.Admit.{ranges}
 use Rattle.listing.specs.Page.{names, field_text}
 use Rattle.listing.proofs.Pages.{heading_more, heading_all}

@@ -1,4 +1,4 @@
-use Rattle.std.proofs.Common.{◌≡◌, string_bytes, ap, ◌∙◌}
+use Rattle.std.proofs.Common.{string_bytes, ap, ◌∙◌}
 use Rattle.listing.specs.Words.{hex, command_text}
 use Rattle.listing.proofs.Pages.{clock_made}
 use Rattle.listing.proofs.page.row_text.Goals as goal

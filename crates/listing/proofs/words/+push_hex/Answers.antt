@@ -1,4 +1,4 @@
-use Rattle.std.proofs.Common.{◌≡◌, ap, ◌∙◌, arith}
+use Rattle.std.proofs.Common.{arith}
 use Rattle.listing.proofs.Hex.{hex_more}
 use Rattle.listing.proofs.words.+push_hex.Goals as goal
 

@@ -1,4 +1,4 @@
-use Rattle.std.proofs.Common.{◌≡◌, ◌+◌, max, sym, refl, ap, ◌∙◌, arith}
+use Rattle.std.proofs.Common.{ap, arith}
 use Rattle.sequences.proofs.Fits.{behind}
 use Rattle.sequences.proofs.times.column_time.Goals as goal
 

@@ -1,4 +1,4 @@
-use Rattle.std.proofs.Common.{◌≡◌, ◌+◌, max, sym, refl, ap, ◌∙◌, arith}
+use Rattle.std.proofs.Common.{ap, ◌∙◌, arith}
 use Rattle.rules.specs.Pins.{other}
 use Rattle.schedule.specs.Ledger.{track}
 use Rattle.sequences.proofs.Fits.{behind}

@@ -1,7 +1,7 @@
 use Rattle.std.proofs.Common.{◌≡◌, ℕ, List, ◌++◌, length, take, drop, sym, ap, ◌∙◌, subst, rules}
 use Rattle.std.proofs.lemmas.List.{take_at}
 use Rattle.rules.specs.Meaning.{Meaning}
-use Rattle.book.specs.Asks.{Ask, read}
+use Rattle.book.specs.Asks.{read}
 use Rattle.book.specs.Answers.{Answered}
 use Rattle.book.specs.Jobs.{ask_of}
 use Rattle.service.proofs.serving.ask.Goals as goal

@@ -1,4 +1,4 @@
-use Rattle.std.proofs.Common.{◌≡◌, List, get_or, take, Some, refl, subst, arith, take_all}
+use Rattle.std.proofs.Common.{◌≡◌, get_or, take, Some, refl, subst, arith, take_all}
 use Rattle.schedule.proofs.Obeying.{says}
 use Rattle.full_driver.specs.States.{device_of}
 use Rattle.book.specs.declared.request.Job.{Job}

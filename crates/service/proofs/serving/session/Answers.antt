@@ -1,13 +1,12 @@
-use Rattle.std.proofs.Common.{◌≡◌, ℕ, ◌+◌, ◌≤◌, [], sym, refl, ap, ◌∙◌, subst}
+use Rattle.std.proofs.Common.{◌≡◌, ℕ, ◌+◌, ◌≤◌, [], sym, ap, ◌∙◌, subst}
 use Rattle.sheet.specs.declared.sheet.Sheet.{Sheet}
 use Rattle.rules.specs.Meaning.{Meaning, switch_on}
 use Rattle.schedule.specs.Stretch.{Stretch}
-use Rattle.schedule.specs.Waking.{settled, primed}
+use Rattle.schedule.specs.Waking.{settled}
 use Rattle.schedule.proofs.Chains.{stretch_then}
 use Rattle.schedule.proofs.Obeying.{says}
 use Rattle.full_driver.specs.States.{device_of}
 use Rattle.book.specs.Law.{Upheld}
-use Rattle.book.specs.Answers.{clocks, driven}
 use Rattle.service.proofs.serving.session.Goals as goal
 
 pub returns : goal.returns

@@ -1,4 +1,4 @@
-use Rattle.std.proofs.Common.{◌≡◌, ◌+◌, ◌-◌, ◌*◌, None, sym, ◌∙◌, arith}
+use Rattle.std.proofs.Common.{◌≡◌, ◌+◌, ◌-◌, ◌*◌, sym, ◌∙◌, arith}
 use Rattle.trace.specs.Clock.{pins_of}
 use Rattle.trace.specs.Body.{piece}
 use Rattle.trace.proofs.Clocks.{piece_past, clocks_nth}

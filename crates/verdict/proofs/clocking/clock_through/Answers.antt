@@ -1,4 +1,4 @@
-use Rattle.std.proofs.Common.{◌≡◌, ℕ, ◌*◌, ◌≤◌, length, take, drop, sym, refl, ap, ◌∙◌, subst, arith}
+use Rattle.std.proofs.Common.{◌≡◌, ◌*◌, ◌≤◌, length, drop, refl, ◌∙◌, subst, arith}
 use Rattle.sheet.specs.declared.sheet.Sheet.{Sheet}
 use Rattle.trace.specs.Body.{clocks}
 use Rattle.verdict.proofs.Joins.{wrote_none, wrote_both, wrote_as}

@@ -1,4 +1,3 @@
-use Rattle.std.proofs.Common.{◌≡◌, ℕ, get_or, sym, refl, ap, ◌∙◌, arith}
 use Rattle.verdict.proofs.Plainly.{plain_ok, plain_err, value_is}
 use Rattle.verdict.proofs.host.sgram_judge.Goals as goal
 

@@ -1,8 +1,7 @@
-use Rattle.std.proofs.Common.{◌≡◌, ℕ, ◌*◌, List, ◌++◌, length, drop, sym, refl, ap, ◌∙◌, arith}
+use Rattle.std.proofs.Common.{◌++◌, ap, ◌∙◌, arith}
 use Rattle.std.proofs.lemmas.List.{take_rest}
-use Rattle.rules.specs.Meaning.{Meaning, run}
-use Rattle.cells.specs.Planes.{planed, picture}
-use Rattle.device.specs.Cells.{fresh}
+use Rattle.rules.specs.Meaning.{run}
+use Rattle.cells.specs.Planes.{picture}
 use Rattle.trace.specs.Body.{clocks}
 use Rattle.verdict.specs.Page.{page}
 use Rattle.verdict.proofs.Joins.{wrote_as, wrote_within}

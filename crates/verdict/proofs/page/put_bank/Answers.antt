@@ -1,8 +1,6 @@
-use Rattle.std.proofs.Common.{◌≡◌, ℕ, ◌+◌, ◌^◌, ◌<◌, ◌≤◌, List, [], ◌∷◌, ◌++◌, length, sym, refl, ap, ◌∙◌, subst, arith, length-append, rules}
-use Rattle.verdict.specs.Wrote.{Wrote}
+use Rattle.std.proofs.Common.{sym, ap, arith}
 use Rattle.verdict.specs.Page.{bank_line}
-use Rattle.verdict.proofs.Joins.{wrote_none, wrote_both, wrote_as, length_hex}
-use Rattle.verdict.proofs.Widths.{two_digits, four_digits, five_digits, rule_small}
+use Rattle.verdict.proofs.Joins.{wrote_both, wrote_as}
 use Rattle.verdict.proofs.page.put_bank.Goals as goal
 
 pub returns-in-Idle : goal.returns-in-Idle

@@ -1,8 +1,6 @@
-use Rattle.std.proofs.Common.{◌≡◌, ℕ, ◌+◌, ◌^◌, ◌<◌, ◌≤◌, List, [], ◌∷◌, ◌++◌, length, sym, refl, ap, ◌∙◌, subst, arith, length-append, rules}
-use Rattle.verdict.specs.Wrote.{Wrote}
-use Rattle.verdict.specs.Page.{hex}
-use Rattle.verdict.proofs.Joins.{wrote_none, wrote_both, wrote_as, length_hex}
-use Rattle.verdict.proofs.Widths.{two_digits, four_digits, five_digits, rule_small}
+use Rattle.std.proofs.Common.{arith}
+use Rattle.verdict.proofs.Joins.{wrote_both, length_hex}
+use Rattle.verdict.proofs.Widths.{four_digits}
 use Rattle.verdict.proofs.page.put_clock_line.Goals as goal
 
 pub put_decimal-end-requires : goal.put_decimal-end-requires

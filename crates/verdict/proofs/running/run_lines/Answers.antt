@@ -1,4 +1,4 @@
-use Rattle.std.proofs.Common.{◌≡◌, ℕ, ◌*◌, List, length, drop, sym, refl, ap, ◌∙◌, subst, arith, lit<, rules}
+use Rattle.std.proofs.Common.{◌≡◌, ℕ, ◌*◌, List, length, drop, sym, ap, ◌∙◌, subst, arith, lit<, rules}
 use Rattle.rules.specs.Meaning.{Meaning, run}
 use Rattle.rules.specs.State.{State}
 use Rattle.lines.specs.Line.{line}

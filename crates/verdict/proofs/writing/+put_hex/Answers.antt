@@ -1,5 +1,4 @@
-use Rattle.std.proofs.Common.{◌≡◌, ℕ, ◌+◌, ◌-◌, ◌/◌, ◌<◌, List, length, sym, subst, arith}
-use Rattle.verdict.specs.Wrote.{Wrote}
+use Rattle.std.proofs.Common.{◌-◌, ◌/◌, ◌<◌, sym, arith}
 use Rattle.verdict.proofs.Joins.{wrote_none, wrote_both, hex_none, hex_last, length_hex}
 use Rattle.verdict.proofs.writing.+put_hex.Goals as goal
 

@@ -1,4 +1,4 @@
-use Rattle.std.proofs.Common.{◌≡◌, true, sym, subst, rules}
+use Rattle.std.proofs.Common.{◌≡◌, true, sym, subst}
 use Rattle.rules.specs.State.{Banks}
 use Rattle.beats.specs.Inside.{row_in}
 use Rattle.control.proofs.Rows.{kept_in}

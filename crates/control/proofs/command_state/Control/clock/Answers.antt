@@ -1,4 +1,4 @@
-use Rattle.std.proofs.Common.{sym, ap, ◌∙◌, rules}
+use Rattle.std.proofs.Common.{sym, ap, ◌∙◌}
 use Rattle.rules.specs.Beat.{beat_by}
 use Rattle.control.specs.View.{state_of}
 use Rattle.rules.proofs.Clear.{cleared}

@@ -1,4 +1,4 @@
-use Rattle.std.proofs.Common.{◌≡◌, ℕ, ◌+◌, ◌*◌, ◌^◌, ◌<◌, ◌≤◌, length, None, sym, refl, ap, ◌∙◌, subst, arith}
+use Rattle.std.proofs.Common.{◌≡◌, ◌+◌, ◌*◌, ◌≤◌, length, None, sym, refl, ap, ◌∙◌, subst, arith}
 use Rattle.schedule.specs.Stretch.{span}
 use Rattle.schedule.proofs.Readings.{timely_before}
 use Rattle.sequences.proofs.Gones.{gone_then, gone_is, stands_of, all_budgets}

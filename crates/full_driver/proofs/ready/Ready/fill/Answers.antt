@@ -1,5 +1,4 @@
-use Rattle.std.proofs.Common.{◌≡◌, ℕ, ◌+◌, ◌*◌, ◌^◌, ◌<◌, ◌≤◌, [], None, sym, refl, ap, ◌∙◌, subst, arith}
-use Rattle.schedule.specs.Ledger.{Timely}
+use Rattle.std.proofs.Common.{◌≡◌, ◌+◌, ◌*◌, ◌≤◌, [], None, sym, refl, ap, ◌∙◌, subst, arith}
 use Rattle.schedule.specs.Spread.{spread}
 use Rattle.schedule.proofs.Readings.{timely_before}
 use Rattle.sequences.proofs.Gones.{gone_then, gone_is, stands_of, all_budgets}

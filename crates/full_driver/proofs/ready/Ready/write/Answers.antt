@@ -1,5 +1,4 @@
-use Rattle.std.proofs.Common.{◌≡◌, ℕ, ◌+◌, ◌*◌, ◌^◌, ◌<◌, ◌≤◌, [], length, None, sym, refl, ap, ◌∙◌, subst, arith}
-use Rattle.schedule.specs.Ledger.{Timely}
+use Rattle.std.proofs.Common.{◌≡◌, ◌+◌, ◌*◌, ◌≤◌, [], length, None, sym, refl, ◌∙◌, subst, arith}
 use Rattle.schedule.specs.Writing.{all_written}
 use Rattle.schedule.proofs.Readings.{timely_before}
 use Rattle.schedule.proofs.Filling.{spreads}

@@ -1,4 +1,4 @@
-use Rattle.std.proofs.Common.{◌≡◌, sym, ap, ◌∙◌}
+use Rattle.std.proofs.Common.{sym, ap, ◌∙◌}
 use Rattle.rules.specs.Meaning.{switch_on, run}
 use Rattle.recorder.proofs.keeping.RecorderDevice.switch_on.Goals as goal
 

@@ -1,5 +1,4 @@
-use Rattle.std.proofs.Common.{◌≡◌, ℕ, ◌+◌, ◌≤◌, [], sym, refl, ap, ◌∙◌, subst, arith}
-use Rattle.schedule.specs.Ledger.{Timely}
+use Rattle.std.proofs.Common.{◌≡◌, ◌+◌, ◌≤◌, [], sym, refl, ap, ◌∙◌, subst, arith}
 use Rattle.schedule.proofs.Readings.{timely_before}
 use Rattle.sequences.specs.Times.{caught_up, cleared}
 use Rattle.sequences.proofs.Gones.{gone_then, gone_is, stands_of, all_budgets}

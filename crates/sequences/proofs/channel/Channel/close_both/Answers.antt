@@ -1,6 +1,6 @@
-use Rattle.std.proofs.Common.{◌≡◌, ℕ, ◌+◌, ◌≤◌, max, true, sym, refl, ap, ◌∙◌, subst, arith}
+use Rattle.std.proofs.Common.{◌+◌, max, true, sym, refl, ap, ◌∙◌, subst, arith}
 use Rattle.rules.specs.declared.pins.BankName.TheVariants.{A}
-use Rattle.rules.specs.declared.pins.Command.TheVariants.{Activate, Precharge, Refresh}
+use Rattle.rules.specs.declared.pins.Command.TheVariants.{Precharge}
 use Rattle.schedule.specs.Line.{silent}
 use Rattle.schedule.specs.Fit.{Fit}
 use Rattle.schedule.specs.After.{after}

@@ -1,6 +1,5 @@
-use Rattle.std.proofs.Common.{◌≡◌, ℕ, ◌+◌, ◌≤◌, max, false, sym, refl, ap, ◌∙◌, subst, arith}
-use Rattle.rules.specs.declared.pins.BankName.TheVariants.{A}
-use Rattle.rules.specs.declared.pins.Command.TheVariants.{Activate, Precharge, Refresh}
+use Rattle.std.proofs.Common.{◌+◌, max, false, sym, refl, ap, ◌∙◌, subst, arith}
+use Rattle.rules.specs.declared.pins.Command.TheVariants.{Precharge}
 use Rattle.schedule.specs.Line.{silent}
 use Rattle.schedule.specs.Fit.{Fit}
 use Rattle.schedule.specs.After.{after}

@@ -1,4 +1,4 @@
-use Rattle.std.proofs.Common.{◌≡◌, sym, refl, ap, ◌∙◌, subst, arith}
+use Rattle.std.proofs.Common.{sym, refl, ap, ◌∙◌, subst, arith}
 use Rattle.schedule.specs.Obeyed.{Brings}
 use Rattle.orders.proofs.Encoding.{encodes, data_is}
 use Rattle.sequences.proofs.Gones.{gone_one}

@@ -1,14 +1,9 @@
-use Rattle.std.proofs.Common.{◌≡◌, ℕ, ◌+◌, ◌-◌, ◌<◌, ◌≤◌, max, [], sym, refl, ap, ◌∙◌, subst, arith}
-use Rattle.rules.specs.Meaning.{Meaning}
-use Rattle.sheet.specs.declared.sheet.Sheet.{Sheet}
-use Rattle.schedule.specs.declared.ledger.Ledger.{Ledger}
+use Rattle.std.proofs.Common.{◌≡◌, ℕ, ◌+◌, ◌-◌, max, [], sym, refl, ◌∙◌, subst, arith}
 use Rattle.schedule.specs.Line.{silent}
 use Rattle.schedule.specs.Ledger.{Timely}
 use Rattle.schedule.specs.Fit.{Fit}
 use Rattle.schedule.specs.After.{after, stored, asked}
-use Rattle.schedule.specs.Stretch.{at_clock}
 use Rattle.schedule.proofs.Readings.{timely_at, timely_before}
-use Rattle.sequences.specs.Times.{waited}
 use Rattle.sequences.proofs.Gones.{gone_then, gone_is, stands_of}
 use Rattle.sequences.proofs.channel.Channel.give_at.Goals as goal
 

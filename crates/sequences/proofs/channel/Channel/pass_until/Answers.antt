@@ -1,9 +1,7 @@
-use Rattle.std.proofs.Common.{◌≡◌, ℕ, ◌+◌, ◌-◌, ◌<◌, ◌≤◌, min, max, [], sym, refl, ap, ◌∙◌, subst, arith}
-use Rattle.schedule.specs.Ledger.{Timely}
-use Rattle.schedule.proofs.Readings.{timely_before}
+use Rattle.std.proofs.Common.{◌≡◌, ◌+◌, min, [], refl, ap, ◌∙◌, arith}
 use Rattle.sequences.specs.Times.{waited, caught_up}
-use Rattle.sequences.proofs.Gones.{gone_none, gone_then, gone_is, stands_of, all_budgets}
-use Rattle.sequences.proofs.Fits.{closed_a, closed_b, timely_idle, soon_idle, goes_on}
+use Rattle.sequences.proofs.Gones.{gone_none, gone_then, gone_is, stands_of}
+use Rattle.sequences.proofs.Fits.{timely_idle, soon_idle, goes_on}
 use Rattle.sequences.proofs.channel.Channel.pass_until.Goals as goal
 
 pub loop-self-init : goal.loop-self-init

@@ -1,8 +1,8 @@
-use Rattle.std.proofs.Common.{◌≡◌, ℕ, ◌+◌, ◌-◌, ◌<◌, ◌≤◌, max, false, [], sym, refl, ap, ◌∙◌, subst, arith}
-use Rattle.schedule.specs.Ledger.{Timely, track}
+use Rattle.std.proofs.Common.{◌≡◌, ◌+◌, false, [], sym, refl, ap, ◌∙◌, subst, arith}
+use Rattle.schedule.specs.Ledger.{track}
 use Rattle.schedule.specs.Fit.{Reachable}
 use Rattle.schedule.proofs.Readings.{timely_before}
-use Rattle.sequences.specs.Times.{waited, column_time, opened_from}
+use Rattle.sequences.specs.Times.{waited, column_time}
 use Rattle.sequences.proofs.Gones.{gone_then, gone_is, stands_of}
 use Rattle.sequences.proofs.Fits.{opened_apart, reachable_then, track_waited}
 use Rattle.sequences.proofs.channel.Channel.select.Goals as goal

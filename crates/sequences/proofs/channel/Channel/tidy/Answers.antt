@@ -1,4 +1,4 @@
-use Rattle.std.proofs.Common.{◌≡◌, ℕ, ◌+◌, ◌≤◌, true, false, cond, sym, refl, ap, ◌∙◌, subst, arith}
+use Rattle.std.proofs.Common.{◌≡◌, true, false, cond, sym, ap, ◌∙◌, subst, arith}
 use Rattle.schedule.specs.Budget.{Recent}
 use Rattle.sequences.specs.Times.{cleared, untidy}
 use Rattle.sequences.proofs.Gones.{gone_none}

@@ -1,4 +1,4 @@
-use Rattle.std.proofs.Common.{◌≡◌, ℕ, ◌+◌, ◌-◌, ◌<◌, ◌≤◌, max, [], sym, refl, ap, ◌∙◌, subst, arith}
+use Rattle.std.proofs.Common.{◌≡◌, ◌+◌, ◌-◌, max, [], sym, refl, ap, ◌∙◌, subst, arith}
 use Rattle.schedule.specs.Ledger.{Timely}
 use Rattle.schedule.specs.Stretch.{at_clock}
 use Rattle.schedule.proofs.Readings.{timely_at, timely_before}
