@@ -1,5 +1,6 @@
 // The driver's requests on both devices, with and without an interlock.
 #![tactic(auto)]
+
 #[cfg(test)]
 mod devices;
 #[cfg(test)]
