@@ -7,6 +7,7 @@ use anyhow::anyhow;
 use console::{read_text, refusal_line};
 use report::{Report, clocks_of, compared, verdict_line};
 use std::env;
+use std::process::ExitCode;
 use trace::lines;
 
 const HELP: &str =
@@ -71,10 +72,12 @@ fn run(rt: &HostRuntime) -> anyhow::Result<()> {
     Ok(())
 }
 
-fn main(rt: HostRuntime) -> anyhow::Result<()> {
-    let done = run(&rt);
-    if let Err(error) = &done {
-        let _ = eprintln!(rt; "compare: {error}");
+fn main(rt: HostRuntime) -> ExitCode {
+    match run(&rt) {
+        Ok(()) => ExitCode::SUCCESS,
+        Err(error) => {
+            let _ = eprintln!(rt; "compare: {error}");
+            ExitCode::FAILURE
+        }
     }
-    done
 }

@@ -8,6 +8,7 @@ use anyhow::anyhow;
 use console::read_text;
 use std::env;
 use std::io::Write;
+use std::process::ExitCode;
 
 const HELP: &str =
     "judge: reads a pin trace on standard input and writes the verdict on standard output.
@@ -37,10 +38,12 @@ fn run(rt: &HostRuntime) -> anyhow::Result<()> {
     Ok(())
 }
 
-fn main(rt: HostRuntime) -> anyhow::Result<()> {
-    let done = run(&rt);
-    if let Err(error) = &done {
-        let _ = eprintln!(rt; "judge: {error}");
+fn main(rt: HostRuntime) -> ExitCode {
+    match run(&rt) {
+        Ok(()) => ExitCode::SUCCESS,
+        Err(error) => {
+            let _ = eprintln!(rt; "judge: {error}");
+            ExitCode::FAILURE
+        }
     }
-    done
 }

@@ -7,6 +7,7 @@ mod words;
 use anyhow::anyhow;
 use page::listing;
 use std::io::{Read, Write};
+use std::process::ExitCode;
 use std::{env, io};
 use trace::LIMIT;
 
@@ -41,10 +42,12 @@ fn run(rt: &HostRuntime) -> anyhow::Result<()> {
     Ok(())
 }
 
-fn main(rt: HostRuntime) -> anyhow::Result<()> {
-    let done = run(&rt);
-    if let Err(error) = &done {
-        let _ = eprintln!(rt; "listing: {error}");
+fn main(rt: HostRuntime) -> ExitCode {
+    match run(&rt) {
+        Ok(()) => ExitCode::SUCCESS,
+        Err(error) => {
+            let _ = eprintln!(rt; "listing: {error}");
+            ExitCode::FAILURE
+        }
     }
-    done
 }
