@@ -6,6 +6,7 @@ use Rattle.std.proofs.lemmas.List.{take_more, take_all}
 use Rattle.sheet.specs.declared.sheet.Sheet.{Sheet}
 use Rattle.sheet.specs.Lowered.{lowered}
 use Rattle.sheet.proofs.Same.{same_sheet}
+use Rattle.rules.specs.declared.pins.Level.TheVariants.{Low}
 use Rattle.rules.specs.declared.pins.Pins.{Pins}
 use Rattle.rules.specs.declared.fault.Fault.{Fault}
 use Rattle.rules.specs.declared.state.Work.{Work}
@@ -179,10 +180,14 @@ module _ {X : Type 0} (row : ℕ) (words : ℕ → List X → ℕ → ℕ) (some
       ap (drop (row * rows_in row x memory)) back
       ∙ subst (λ (r : ℕ). drop (row * r) y ≡ drop (row * r) memory) (ap (λ (u : State). u.sheet.rows) h) kept
 
+-- what the check takes for a clock past the last
+abbrev pub lows : Pins
+lows = record { cs = Low; ras = Low; cas = Low; we = Low; dsf = Low; dqm = 0; address = 0; dq = 0 }
+
 -- one clock more of a list
-pub run_more : (m n k : Meaning) (ps : List Pins) (i : ℕ) (d : Pins) → i < length ps → n ≡ run m (take i ps) → k ≡ step n (get_or ps i d) → k ≡ run m (take (i + 1) ps)
-run_more m n k ps i d h e f =
-    f ∙ ap (λ (x : Meaning). step x (get_or ps i d)) e ∙ sym (run_join m (take i ps) (get_or ps i d ∷ [])) ∙ ap (run m) (sym (take_more ps i d h))
+pub run_more : (m n k : Meaning) (ps : List Pins) (i : ℕ) → i < length ps → n ≡ run m (take i ps) → k ≡ step n (get_or ps i lows) → k ≡ run m (take (i + 1) ps)
+run_more m n k ps i h e f =
+    f ∙ ap (λ (x : Meaning). step x (get_or ps i lows)) e ∙ sym (run_join m (take i ps) (get_or ps i lows ∷ [])) ∙ ap (run m) (sym (take_more ps i lows h))
 
 -- all of them
 pub run_whole : (m n : Meaning) (ps : List Pins) (i : ℕ) → length ps ≤ i → n ≡ run m (take i ps) → n ≡ run m ps
