@@ -41,6 +41,10 @@ pub lowered_twice : (s : Sheet) (k : ℕ) → lowered s (min s.rows k) ≡ lower
 lowered_twice s k =
     let e : min s.rows (min s.rows k) ≡ min s.rows k = omega (arith, min-le_left s.rows k) in same_sheet _ _ (cc)
 
+-- a sheet lowered to n rows, where n are those that fit
+pub lowered_to : (r x s : Sheet) (n k : ℕ) → n ≡ min s.rows k → x ≡ s → r ≡ lowered x n → r ≡ lowered s k
+lowered_to r x s n k e h f = f ∙ ap (λ (y : Sheet). lowered y n) h ∙ ap (lowered s) e ∙ lowered_twice s k
+
 pub fitted_same : (s : State) (k : ℕ) → s.sheet.rows ≤ k → fitted s k ≡ s
 fitted_same s k h =
     let e = lowered_same s.sheet k h in
