@@ -1,4 +1,4 @@
-ghost use Rattle.std.specs.Prelude.{◌≡◌, true, [], ◌∷◌, ◌++◌, IfSome};
+ghost use Rattle.std.specs.Prelude.{◌≡◌, true, false, [], ◌∷◌, ◌++◌, IfSome, Some, None, if◌then◌else◌};
 ghost use Rattle.recorder.specs.Kept.{below_meaning, Kept, Led};
 
 use crate::record::Recorder;
@@ -17,7 +17,9 @@ fn keep(kept: &mut Vec<Pins>, pins: Pins) -> bool
 impl<D: Device> Recorder<D> {
     // Keeps nothing until the device is switched on.
     pub fn new(heap: Global, below: D) -> Recorder<D>
-        ensures { result.below ≡ below }
+        ensures below { result.below ≡ below }
+        ensures kept { result.pins.items ≡ [] }
+        ensures idle { result.whole ≡ false }
     {
         Recorder {
             below,
@@ -30,6 +32,7 @@ impl<D: Device> Recorder<D> {
     pub fn into_parts(self) -> (D, Option<Vec<Pins>>)
         requires { Kept D.Device.reachable D.Device.meaning self }
         ensures below { result.0 ≡ self.below }
+        ensures kept { result.1 ≡ (if self.whole then Some self.pins else None) }
         ensures led { IfSome result.1 (λ v. Led (D.Device.meaning self.below) v.items) }
     {
         let Recorder { below, pins, whole } = self;

@@ -1,5 +1,4 @@
-use Rattle.std.proofs.Common.{refl}
 use Rattle.recorder.proofs.record.Recorder.into_parts.Goals as goal
 
-pub returns-then-whole : goal.returns-then-whole
-returns-then-whole g c = record { below = refl; led = record { from = c.requires.from; leads = c.requires.all c.if-whole.true } }
+pub returns-then-whole-clause-led : goal.returns-then-whole-clause-led
+returns-then-whole-clause-led g c = record { from = c.requires.from; leads = c.requires.all c.if-whole.true }
