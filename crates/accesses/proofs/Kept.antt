@@ -1,5 +1,5 @@
 -- The buffer of a read, and the ledger after it.
-use Rattle.std.proofs.Common.{◌≡◌, ℕ, suc, ◌+◌, ◌-◌, ◌<◌, ◌≤◌, Bool, true, false, cond, ltb, leb, List, [], ◌∷◌, ◌++◌, length, take, set, sym, refl, ap, ◌∙◌, subst, arith, ltb-true, leb-false, leb-true}
+use Rattle.std.proofs.Common.{◌^◌, ◌<◌, ◌≡◌, ℕ, suc, ◌+◌, ◌-◌, ◌≤◌, Bool, true, false, cond, ltb, leb, List, [], ◌∷◌, ◌++◌, length, take, set, sym, refl, ap, ◌∙◌, subst, arith, ltb-true, leb-false, leb-true}
 use Rattle.std.proofs.lemmas.List.{take_more_set}
 use Rattle.sheet.specs.declared.sheet.Sheet.{Sheet}
 use Rattle.rules.specs.declared.pins.Access.TheVariants.{Read}
@@ -10,6 +10,7 @@ use Rattle.rules.specs.Meaning.{Meaning}
 use Rattle.schedule.specs.declared.ledger.Ledger.{Ledger}
 use Rattle.schedule.specs.Obeyed.{Brings}
 use Rattle.schedule.specs.Reading.{Readable, reading_command}
+use Rattle.schedule.specs.After.{address}
 use Rattle.schedule.specs.Ledger.{Timely}
 use Rattle.schedule.specs.Fit.{Reachable}
 use Rattle.schedule.specs.Stretch.{Went, span}
@@ -19,7 +20,7 @@ use Rattle.schedule.proofs.Budgeting.{keeps_current}
 use Rattle.schedule.proofs.Halves.{span_more}
 use Rattle.orders.specs.Signals.{pins_of, Encodable}
 use Rattle.orders.proofs.Encoding.{encodes}
-use Rattle.sequences.specs.declared.channel.Channel.{Channel}
+use Rattle.sequences.specs.Held.{Held}
 use Rattle.sequences.specs.Gone.{Keeps, Stands, Gone, passed}
 use Rattle.accesses.specs.Rows.{kept_for, with_read}
 
@@ -54,18 +55,20 @@ keeps_read s k d = record {
 }
 
 -- a row that was read, as a stretch of a channel
-pub gone_read : {D : Type 0} {reachable : D → Type 0} {meaning : D → Meaning} (s s' : Channel D) (k : ℕ) (us ws : List ℕ) (f : ℕ → ℕ) → Stands reachable meaning s
+pub gone_read : {D : Type 0} {reachable : D → Type 0} {meaning : D → Meaning} (s s' : Held D) (k : ℕ) (us ws : List ℕ) (f : ℕ → ℕ) → Stands reachable meaning s
     → reachable s'.device → s'.sheet ≡ s.sheet → s'.ledger ≡ with_read s.sheet k s.ledger
-    → Went s.sheet (meaning s.device) (meaning s'.device) (kept_for s.sheet k s.ledger) (with_read s.sheet k s.ledger) (k + s.sheet.cl) us f → us ≡ ws
+    → Went s.sheet (meaning s.device) (meaning s'.device) (kept_for s.sheet k s.ledger) (with_read s.sheet k s.ledger) (k + s.sheet.cl) us f → us ≡ ws → s.ledger.clock + (k + s.sheet.cl) < 2 ^ 62
     → Gone reachable meaning s s' ws f
-gone_read {meaning = meaning} s s' k us ws f r v e l w h =
+gone_read {meaning = meaning} s s' k us ws f r v e l w h c =
     let d : Ledger = s.ledger in
     let t : s'.ledger.clock ≡ d.clock + (k + s.sheet.cl) = ap (λ x. x.clock) l in
     let n : k + s.sheet.cl ≡ passed s s' = omega arith in
     record {
+      stood = r;
       valid = v;
       sheet = e;
       current = subst (λ x. Current s.sheet x) (sym l) (keeps_current.reads s.sheet d (k + s.sheet.cl) r.current);
+      counted = omega (arith, t, c);
       keeps = subst (λ x. Keeps d x) (sym l) (keeps_read s.sheet k d);
       went = record {
         rests = (subst (λ x. Went s.sheet (meaning s.device) (meaning s'.device) (kept_for s.sheet k d) x (k + s.sheet.cl) us f) (sym l) w).rests;
@@ -75,7 +78,7 @@ gone_read {meaning = meaning} s s' k us ws f r v e l w h =
       };
     }
 
--- a column that can be reached can be read
+-- A column that can be reached can be read. By cases: a bank's track computes only where the bank is named.
 pub readable_kept : (s : Sheet) (d : Ledger) (b : BankName) (c k : ℕ) → c + k ≤ 256 → Reachable s d b false → Timely d (d.clock + (k + s.cl)) → Readable s (kept_for s k d) b c k
 readable_kept s d A c k h r t = record {
   inside = h;
@@ -95,3 +98,14 @@ readable_kept s d B c k h r t = record {
   bus = omega arith;
   timely = record { counts = t.counts; fresh = t.fresh; young_a = t.young_a; young_b = t.young_b };
 }
+
+-- what a row's words ask, of a channel that was opened
+pub readable_at : {D : Type 0} {s s' : Held D} (k : ℕ) (b : BankName) (c : ℕ) → s ≡ s' → Readable s'.sheet (kept_for s'.sheet k s'.ledger) b c k
+    → Readable s.sheet (kept_for s.sheet k s.ledger) b c k
+readable_at k b c e h = subst (λ x. Readable x.sheet (kept_for x.sheet k x.ledger) b c k) (sym e) h
+
+-- what a read of a row says
+pub record ReadOut {D : Type 0} (reachable : D → Type 0) (meaning : D → Meaning) (b : BankName) (c k : ℕ) (s s' : Held D) (ws : List ℕ) : Type 0 where
+  pub ledger : s'.ledger ≡ with_read s.sheet k s.ledger
+  pub words : ws ≡ span (meaning s.device).cells (address s.sheet s.ledger b c) k
+  pub gone : Gone reachable meaning s s' ws (meaning s.device).cells

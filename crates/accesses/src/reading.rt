@@ -4,7 +4,7 @@ ghost use Rattle.schedule.specs.After.{address};
 ghost use Rattle.schedule.specs.Stretch.{at_clock, span};
 ghost use Rattle.schedule.specs.Reading.{Readable, reading_command};
 ghost use Rattle.orders.specs.Signals.{pins_of};
-ghost use Rattle.sequences.specs.Gone.{Stands, Gone};
+ghost use Rattle.sequences.specs.Gone.{Gone};
 ghost use Rattle.accesses.specs.Rows.{kept_for, with_read};
 
 use device::Device;
@@ -45,7 +45,6 @@ fn keep(buffer: &mut [u32], cl: usize, j: usize, word: u32)
 
 // Words of an open row, from a column on: a clock for each, and then the latency.
 pub fn read_row<D: Device>(channel: &mut Channel<D>, bank: BankName, column: u8, buffer: &mut [u32])
-    requires stands { Stands D.Device.reachable D.Device.meaning channel.old }
     requires readable { Readable channel.old.sheet (kept_for channel.old.sheet (length buffer.old) channel.old.ledger) bank column (length buffer.old) }
     ensures ledger { channel.new.ledger ≡ with_read channel.old.sheet (length buffer.old) channel.old.ledger }
     ensures words { buffer.new ≡ span (D.Device.meaning channel.old.device).cells (address channel.old.sheet channel.old.ledger bank column) (length buffer.old) }
@@ -54,6 +53,7 @@ pub fn read_row<D: Device>(channel: &mut Channel<D>, bank: BankName, column: u8,
     let k = buffer.len();
     let cl = channel.sheet.cl as usize;
     channel.ledger.bus = channel.ledger.clock + (k + cl) as u64 + 2;
+    // j counts clocks: at j a column is asked for, and the word of the column asked cl clocks ago comes.
     for j in 0..k + cl {
         let (_, word) = channel.device.clock(reading_pins(bank, column, k, j));
         channel.ledger.clock += 1;

@@ -3,7 +3,7 @@ ghost use Rattle.std.specs.Prelude.{◌≡◌, ◌+◌, ◌*◌, ◌%◌, ◌<�
 ghost use Rattle.schedule.specs.Ledger.{Timely};
 ghost use Rattle.schedule.specs.Places.{bank_of, row_of};
 ghost use Rattle.schedule.specs.Stretch.{span};
-ghost use Rattle.sequences.specs.Gone.{Stands, Gone};
+ghost use Rattle.sequences.specs.Gone.{Gone};
 ghost use Rattle.accesses.specs.Rows.{with_row_read, with_fetched};
 ghost use Rattle.accesses.specs.Speed.{Soon};
 
@@ -31,7 +31,6 @@ pub fn locate(rows: u32, address: u32) -> (BankName, u16, u8)
 
 // Words of one row.
 fn read_at<D: Device>(channel: &mut Channel<D>, address: u32, buffer: &mut [u32])
-    requires stands { Stands D.Device.reachable D.Device.meaning channel.old }
     requires inside { address < channel.old.sheet.rows * 512 }
     requires one_row { address % 256 + length buffer.old ≤ 256 }
     requires timely { Timely channel.old.ledger (channel.old.ledger.clock + (147 + length buffer.old)) }
@@ -47,7 +46,6 @@ fn read_at<D: Device>(channel: &mut Channel<D>, address: u32, buffer: &mut [u32]
 
 // At most 256 words, which lie in one row or in two.
 pub fn fetch<D: Device>(channel: &mut Channel<D>, address: u32, buffer: &mut [u32])
-    requires stands { Stands D.Device.reachable D.Device.meaning channel.old }
     requires some { 1 ≤ length buffer.old }
     requires most { length buffer.old ≤ 256 }
     requires inside { address + length buffer.old ≤ channel.old.sheet.rows * 512 }
@@ -67,8 +65,6 @@ pub fn fetch<D: Device>(channel: &mut Channel<D>, address: u32, buffer: &mut [u3
 }
 
 // How soon words of one row come.
-pub fn words_soon() -> u8
+pub fn words_soon()
     ensures { Soon }
-{
-    0
-}
+{}

@@ -1,13 +1,12 @@
-use Rattle.std.specs.Prelude.{ℕ, ◌<◌, Bool, true, nat_lt}
-use Rattle.rules.specs.declared.state.Row.{Row}
-use Rattle.rules.specs.declared.state.Row.TheVariants.{Idle, Active}
+use Rattle.std.specs.Prelude.{ℕ, ◌<◌, Bool, true, Some, None, Option, nat_lt}
+use Rattle.rules.specs.declared.state.OpenRow.{OpenRow}
 use Rattle.rules.specs.declared.state.Work.{Work}
 use Rattle.rules.specs.declared.state.Work.TheVariants.{Nothing, Take, Store, Paint}
 
 -- an open row is one of the sheet's
-abbrev pub row_in : ℕ → Row → Bool
-row_in rows Idle = true
-row_in rows (Active r m) = nat_lt r rows
+abbrev pub row_in : ℕ → Option OpenRow → Bool
+row_in rows None = true
+row_in rows (Some r) = nat_lt r.row rows
 
 -- the work's address, if it has one, is below n
 abbrev pub Inside : ℕ → Work → Type 0

@@ -1,2 +1,3 @@
 pub mod Within
 pub mod Inside
+pub mod Table

@@ -1,7 +1,8 @@
 // The columns of a burst: the interleaved ones from tables, one row for each column in its block.
-ghost use Rattle.std.specs.Prelude.{◌≡◌, ◌+◌, ◌-◌, ◌%◌, ◌<◌, ◌≤◌, bit_xor};
+ghost use Rattle.std.specs.Prelude.{◌≡◌, ◌+◌, ◌-◌, ◌%◌, ◌<◌, ◌≤◌, true, bit_xor};
 ghost use Rattle.rules.specs.Beat.{column};
 ghost use Rattle.rules.specs.State.{beats_in};
+ghost use Rattle.beats.specs.Table.{keeps_rule};
 
 use rules::{Length, Mode};
 
@@ -20,28 +21,14 @@ const EIGHT: [[u8; 8]; 8] = [
     [7, 6, 5, 4, 3, 2, 1, 0],
 ];
 
-fn two(c: usize, i: usize) -> u8
-    requires { i < 2 }
-    ensures is { result ≡ bit_xor (c % 2) i }
-    ensures small { result < 2 }
+// Offset i of the row for column c, in a table that keeps the xor rule.
+fn entry<const N: usize>(table: &[[u8; N]; N], c: usize, i: usize) -> u8
+    requires rule { keeps_rule table.now N ≡ true }
+    requires within { i < N }
+    ensures is { result ≡ bit_xor (c % N) i }
+    ensures small { result < N }
 {
-    TWO[c % 2][i]
-}
-
-fn four(c: usize, i: usize) -> u8
-    requires { i < 4 }
-    ensures is { result ≡ bit_xor (c % 4) i }
-    ensures small { result < 4 }
-{
-    FOUR[c % 4][i]
-}
-
-fn eight(c: usize, i: usize) -> u8
-    requires { i < 8 }
-    ensures is { result ≡ bit_xor (c % 8) i }
-    ensures small { result < 8 }
-{
-    EIGHT[c % 8][i]
+    table[c % N][i]
 }
 
 // The offset of beat i in the block of an interleaved burst from column c.
@@ -52,9 +39,9 @@ fn crossed(length: Length, c: usize, i: usize) -> u8
 {
     match length {
         Length::One => 0,
-        Length::Two => two(c, i),
-        Length::Four => four(c, i),
-        Length::Eight => eight(c, i),
+        Length::Two => entry(&TWO, c, i),
+        Length::Four => entry(&FOUR, c, i),
+        Length::Eight => entry(&EIGHT, c, i),
     }
 }
 
@@ -71,6 +58,7 @@ fn block_of(length: Length, c: u8) -> u8
     ensures is { result ≡ c - c % beats_in length }
     ensures room { result + beats_in length ≤ 256 }
 {
+    // By cases: as `c - c % length.beats()` (tried) both devices are 2 to 3 percent slower.
     match length {
         Length::One => c,
         Length::Two => c - c % 2,

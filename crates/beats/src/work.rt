@@ -4,7 +4,7 @@ ghost use Rattle.rules.specs.Words.{low, wide};
 ghost use Rattle.rules.specs.Cells.{place, reach, work_in};
 ghost use Rattle.beats.specs.Inside.{row_in, Inside};
 
-use rules::{Access, BankName, Pins, Registers, Row, Work};
+use rules::{Access, BankName, Beat, OpenRow, Pins, Registers, Work};
 use sheet::Sheet;
 
 // The lanes whose DQM bit is low.
@@ -46,27 +46,26 @@ pub fn work_in(
     sheet: &Sheet,
     registers: Registers,
     pins: Pins,
-    access: Access,
-    bank: BankName,
-    column: u8,
-    row: Row,
+    beat: Beat,
+    row: Option<OpenRow>,
 ) -> Work
-    ensures is { result ≡ work_in sheet.now.rows registers pins access bank column row }
+    ensures is { result ≡ work_in sheet.now.rows registers pins beat.access beat.bank beat.column row }
     ensures inside { row_in sheet.now.rows row ≡ true → Inside (sheet.now.rows * 512) result }
 {
+    let Some(OpenRow { row, masked }) = row else {
+        return Work::Nothing;
+    };
     let dqm = pins.dqm % 16;
-    match (row, access) {
-        (Row::Idle, _) => Work::Nothing,
-        (Row::Active { row, masked: _ }, Access::Read) => Work::Take {
-            address: locate(sheet, bank, row, column),
-        },
-        (Row::Active { row, masked }, Access::Write) => Work::Store {
-            address: locate(sheet, bank, row, column),
+    let address = locate(sheet, beat.bank, row, beat.column);
+    match beat.access {
+        Access::Read => Work::Take { address },
+        Access::Write => Work::Store {
+            address,
             mask: reach_of(dqm, masked, registers.mask),
             word: pins.dq,
         },
-        (Row::Active { row, masked }, Access::Block) => Work::Paint {
-            address: locate(sheet, bank, row, column),
+        Access::Block => Work::Paint {
+            address,
             columns: pins.dq,
             mask: reach_of(dqm, masked, registers.mask),
             colour: registers.colour,

@@ -13,6 +13,7 @@ pub enum Refusal {
 }
 
 impl Refusal {
+    // By name and no `From`: a bare conversion would not say which number.
     pub fn number(self) -> u8
         ensures { result ≡ number_of self }
     {

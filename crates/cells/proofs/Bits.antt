@@ -1,33 +1,20 @@
 -- Numbers by their bits.
-use Rattle.std.proofs.Common.{◌≡◌, ℕ, zero, suc, ◌+◌, ◌-◌, ◌*◌, ◌/◌, ◌%◌, ◌^◌, ◌<◌, ◌≤◌, min, max, Bool, true, false, cond, ◌&&◌, T, eqb, sym, ap, ◌∙◌, subst, ⊎_elim, le_of_suc-le-suc, not-suc-le-zero, mul_comm, add_comm, eq-or-lt_of_le, pow-suc, zero-add, div-one, arith, eqb→eq}
+use Rattle.std.proofs.Common.{◌≡◌, ℕ, zero, suc, ◌+◌, ◌-◌, ◌*◌, ◌/◌, ◌%◌, ◌^◌, ◌<◌, ◌≤◌, min, max, Bool, false, cond, eqb, refl, sym, ap, ◌∙◌, le_of_suc-le-suc, not-suc-le-zero, mul_comm, add_comm, pow-suc, zero-add, arith}
 use mathlib.Core.Path.{fun_ext}
 use lib.Bits.{bit_and, bit_or, and_shr, and_mod, and_step, or_step, and_le_l, and_block, and_mask, and_comm, and_zero_r}
 use Rattle.std.proofs.lemmas.Nat.{shr-shr}
 use Rattle.std.proofs.lemmas.Bool.Decides.{nat_tests}
 use Rattle.rules.specs.Words.{bit, put, wide, chosen}
 use Rattle.cells.specs.Planes.{number}
+use Rattle.std.proofs.lemmas.Bool.{eqb-true}
+use Rattle.rules.proofs.Below.{every, every_one}
+use Rattle.rules.proofs.Bitwise.{bit_zero, bit_half}
 
 pub bit_below : (n i : ℕ) → bit n i < 2
 bit_below n i = omega arith
 
-pub bit_zero : (n : ℕ) → bit n 0 ≡ n % 2
-bit_zero n = ap (λ (x : ℕ). x % 2) (div-one n)
-
--- the bits of a half
-pub bit_half : (n i : ℕ) → bit n (suc i) ≡ bit (n / 2) i
-bit_half n i =
-    let e : suc i ≡ 1 + i = omega arith in
-    rw e (sym (ap (λ (x : ℕ). x % 2) (shr-shr n 1 i)))
-
 pub bit_and_is : (a b i : ℕ) → bit (bit_and a b) i ≡ bit_and (bit a i) (bit b i)
 bit_and_is a b i = rw (and_shr a b i) (and_mod (a / 2 ^ i) (b / 2 ^ i) 1)
-
--- `n >> i & 1 == 1`
-pub bit_on : (n i : ℕ) → bit_and (n / 2 ^ i) 1 ≡ 1 → bit n i ≡ 1
-bit_on n i h = sym (and_mask (n / 2 ^ i) 1) ∙ h
-
-pub bit_off : (n i : ℕ) → (bit_and (n / 2 ^ i) 1 ≡ 1 → ⊥) → bit n i ≡ 0
-bit_off n i h = let ne : bit n i ≡ 1 → ⊥ = λ e. h (and_mask (n / 2 ^ i) 1 ∙ e) in omega arith
 
 pub same_bits : (k m n : ℕ) → m < 2 ^ k → n < 2 ^ k → ((i : ℕ) → i < k → bit m i ≡ bit n i) → m ≡ n
 same_bits zero m n hm hn e = omega arith
@@ -72,9 +59,6 @@ number_down f n i found r h l e g =
     let w : number (λ j. f (i - 1 + j)) (n - (i - 1)) ≡ 2 * number (λ j. f (i + j)) (n - i) + f (i - 1) =
     number_front f n (i - 1) (omega arith) ∙ ap (λ (k : ℕ). 2 * number (λ j. f (k + j)) (n - k) + f (i - 1)) s in
     omega (arith, w)
-
-pub number_whole : (f : ℕ → ℕ) (n : ℕ) → number (λ j. f (0 + j)) n ≡ number f n
-number_whole f n = ap (λ (g : ℕ → ℕ). number g n) (fun_ext (λ j. ap f (zero-add j)))
 
 -- the step from a half
 pub put_half : (m w o : ℕ) → put m w o / 2 ≡ put (m / 2) (w / 2) (o / 2)
@@ -142,27 +126,8 @@ put_code (suc k) m w o hm ho =
     rw (and_last o c, and_last w m, not_last k m hm2) (one_bit (m % 2) (w % 2) (o % 2) (omega arith) (omega arith) (omega arith)) ∙
     sym (put_low m w o)))
 
--- a test of every number below n, which antt computes
-left : (a b : Bool) → T (a && b) → T a
-left true b t = tt
-left false b t = t
-
-right : (a b : Bool) → T (a && b) → T b
-right true b t = t
-right false b t = absurd t
-
-abbrev all : (ℕ → Bool) → ℕ → Bool
-all f zero = true
-all f (suc n) = f n && all f n
-
-all_at : (f : ℕ → Bool) (n k : ℕ) → T (all f n) → k < n → T (f k)
-all_at f zero k t h = absurd (not-suc-le-zero h)
-all_at f (suc n) k t h =
-    ⊎_elim (λ e. subst (λ (m : ℕ). T (f m)) (sym e) (left (f n) (all f n) t)) (λ l. all_at f n k (right (f n) (all f n) t) l)
-    (eq-or-lt_of_le (le_of_suc-le-suc h))
-
 pub bit_full : (j : ℕ) → j < 8 → bit 255 j ≡ 1
-bit_full j h = eqb→eq _ _ (all_at (λ j. eqb (bit 255 j) 1) 8 j tt h)
+bit_full j h = eqb-true _ _ (every_one (λ j. eqb (bit 255 j) 1) 8 j refl h)
 
 pub bit_none : (j : ℕ) → bit 0 j ≡ 0
 bit_none zero = bit_zero 0
@@ -174,8 +139,8 @@ bit_byte x j h =
 
 bit_wide : (c i : ℕ) → c < 16 → i < 32 → bit (wide c) i ≡ bit c (i / 8)
 bit_wide c i hc hi =
-    eqb→eq _ _
-    (all_at (λ i. eqb (bit (wide c) i) (bit c (i / 8))) 32 i (all_at (λ c. all (λ i. eqb (bit (wide c) i) (bit c (i / 8))) 32) 16 c tt hc) hi)
+    eqb-true _ _
+    (every_one (λ i. eqb (bit (wide c) i) (bit c (i / 8))) 32 i (every_one (λ c. every (λ i. eqb (bit (wide c) i) (bit c (i / 8))) 32) 16 c refl hc) hi)
 
 bit_chosen : (dq k j : ℕ) → j < 4 → bit (chosen dq k) j ≡ bit dq (8 * j + k)
 bit_chosen dq k zero h = rw zero-add (bit_zero (chosen dq k) ∙ omega arith)
@@ -206,10 +171,10 @@ lanes x =
 wide_bits : (a b c d : ℕ) → a < 2 → b < 2 → c < 2 → d < 2 → wide (a + 2 * b + 4 * c + 8 * d) ≡ 255 * (a + 256 * (b + 256 * (c + 256 * d)))
 wide_bits a b c d ha hb hc hd =
     let f : ℕ → ℕ → ℕ → ℕ → Bool = λ a b c d. eqb (wide (a + 2 * b + 4 * c + 8 * d)) (255 * (a + 256 * (b + 256 * (c + 256 * d)))) in
-    eqb→eq _ _
-    (all_at (f a b c) 2 d
-    (all_at (λ c. all (f a b c) 2) 2 c
-    (all_at (λ b. all (λ c. all (f a b c) 2) 2) 2 b (all_at (λ a. all (λ b. all (λ c. all (f a b c) 2) 2) 2) 2 a tt ha) hb) hc) hd)
+    eqb-true _ _
+    (every_one (f a b c) 2 d
+    (every_one (λ c. every (f a b c) 2) 2 c
+    (every_one (λ b. every (λ c. every (f a b c) 2) 2) 2 b (every_one (λ a. every (λ b. every (λ c. every (f a b c) 2) 2) 2) 2 a refl ha) hb) hc) hd)
 
 pub column_code : (dq k : ℕ) → bit_and (dq / 2 ^ k) 16843009 * 255 ≡ wide (chosen dq k)
 column_code dq k =
@@ -224,9 +189,9 @@ column_code dq k =
 -- one column in all lanes
 pub one_column : (j k : ℕ) → j < 8 → k < 8 → wide (chosen ((16843009 * 2 ^ j) % 2 ^ 32) k) ≡ cond (eqb k j) 4294967295 0
 one_column j k hj hk =
-    eqb→eq _ _
-    (all_at (λ k. eqb (wide (chosen ((16843009 * 2 ^ j) % 2 ^ 32) k)) (cond (eqb k j) 4294967295 0)) 8 k
-    (all_at (λ j. all (λ k. eqb (wide (chosen ((16843009 * 2 ^ j) % 2 ^ 32) k)) (cond (eqb k j) 4294967295 0)) 8) 8 j tt hj) hk)
+    eqb-true _ _
+    (every_one (λ k. eqb (wide (chosen ((16843009 * 2 ^ j) % 2 ^ 32) k)) (cond (eqb k j) 4294967295 0)) 8 k
+    (every_one (λ j. every (λ k. eqb (wide (chosen ((16843009 * 2 ^ j) % 2 ^ 32) k)) (cond (eqb k j) 4294967295 0)) 8) 8 j refl hj) hk)
 
 pub put_none : (w o : ℕ) → put 0 w o ≡ o
 put_none w o = omega (arith, and_zero_r o, and_zero_r w)

@@ -1,5 +1,5 @@
 -- How many rows a memory holds, where a row takes `row` of its n cells.
-use Rattle.std.proofs.Common.{◌≡◌, ℕ, ◌*◌, ◌/◌, ◌<◌, ◌≤◌, min, leb, sym, ◌∙◌, ⊎_elim, mul_comm, mul-le-mul_left, arith, le-leb}
+use Rattle.std.proofs.Common.{◌≡◌, ℕ, ◌*◌, ◌/◌, ◌<◌, ◌≤◌, leb, sym, ◌∙◌, ⊎_elim, mul_comm, mul-le-mul_left, arith, le-leb}
 use native.Mathlib.Nat.{mul-div-le}
 use Rattle.std.proofs.lemmas.Nat.{le-div}
 use Rattle.std.proofs.lemmas.Bool.Decides.{leb_tells}
@@ -9,12 +9,6 @@ under row rows n l = omega (arith, mul-div-le n row, mul-le-mul_left row l)
 
 over : (row rows n : ℕ) → 0 < row → row * rows ≤ n → rows ≤ n / row
 over row rows n h f = le-div rows n row h (omega (arith, mul_comm row rows))
-
-pub rows_fit : (row rows n r : ℕ) → r ≡ min rows (n / row) → row * r ≤ n
-rows_fit row rows n r e = under row r n (omega arith)
-
-pub rows_all : (row rows n r : ℕ) → 0 < row → r ≡ min rows (n / row) → row * rows ≤ n → r ≡ rows
-rows_all row rows n r h e f = omega (arith, over row rows n h f)
 
 pub rows_enough : (row rows n : ℕ) → 0 < row → leb rows (n / row) ≡ leb (row * rows) n
 rows_enough row rows n h =

@@ -1,26 +1,18 @@
 -- Words in the order of their addresses.
-use Rattle.std.proofs.Common.{◌≡◌, ℕ, suc, ◌+◌, ◌*◌, ◌/◌, ◌%◌, ◌^◌, ◌<◌, ◌≤◌, true, false, cond, ◌&&◌, eqb, ltb, ◌≢◌, List, length, get_or, set, sym, ap, ◌∙◌, ⊎_elim, mod-eq_of_lt, arith}
+use Rattle.std.proofs.Common.{◌≡◌, ℕ, suc, ◌+◌, ◌-◌, ◌*◌, ◌/◌, ◌%◌, ◌^◌, ◌<◌, ◌≤◌, true, false, cond, ◌&&◌, eqb, ltb, ◌≢◌, List, ◌++◌, length, get_or, take, set, sym, ap, ◌∙◌, ⊎_elim, mod-eq_of_lt, arith, length-take, length-drop}
 use mathlib.Core.Path.{fun_ext}
 use lib.Bits.{bit_and}
-use Rattle.std.proofs.lemmas.List.{get_or-set_same, get_or-set_other}
+use Rattle.std.proofs.lemmas.List.{get_or-set_same, get_or-set_other, set-append_left, set-append_right, get_or_append_left, get_or-append_right}
+use borrow.Rule.Slice.PartMut.{put_mid, mid_of, post_of, same_len_mid}
 use Rattle.std.proofs.lemmas.Bool.Decides.{nat_tests, eqb_tells, leb_tells}
 use Rattle.rules.specs.Words.{put, wide, chosen}
-use Rattle.rules.specs.Cells.{written, painted}
+use Rattle.rules.specs.Cells.{painted}
 use Rattle.cells.specs.Words.{worded}
 use Rattle.cells.proofs.Bits.{block_past}
 
 -- the memory alone, without the last address
 abbrev pub held : List ℕ → ℕ → ℕ
 held cells a = get_or cells a 0 % 2 ^ 32
-
--- one word
-pub held_written : (t mask word v : ℕ) (cells : List ℕ) → t < length cells → v < 2 ^ 32 → v ≡ put mask word (held cells t)
-    → (a : ℕ) → held (set cells t v) a ≡ written t mask word (held cells) a
-held_written t mask word v cells h small e a =
-    ⊎_elim
-    (λ s. rw (s.0, s.1) (ap (λ (x : ℕ). x % 2 ^ 32) (get_or-set_same cells t v 0 h) ∙ mod-eq_of_lt small ∙ e))
-    (λ o. rw o.0 (ap (λ (x : ℕ). x % 2 ^ 32) (get_or-set_other cells t a v 0 o.1)))
-    (eqb_tells a t)
 
 -- the first k columns of the block that t lies in
 abbrev pub partly : ℕ → ℕ → ℕ → ℕ → ℕ → (ℕ → ℕ) → ℕ → ℕ
@@ -49,6 +41,40 @@ partly_more t columns mask colour k v cells ys hk hl inv small e a =
     (λ o. ap (λ (x : ℕ). x % 2 ^ 32) (get_or-set_other ys (t / 8 * 8 + k) a v 0 o.1) ∙ inv a ∙ rw (next a t k hk o.1))
     (eqb_tells a (t / 8 * 8 + k))
 
+-- a write in the n words from the b-th on
+module _ (b n j : ℕ) (xs ys : List ℕ) (hb : b ≤ length xs) (hj : j < length ys) where
+  low : length (take b xs) ≡ b
+  low = rw (length-take b xs) (omega arith)
+
+  put_mid-set : (v : ℕ) → put_mid b n xs (set ys j v) ≡ set (put_mid b n xs ys) (b + j) v
+  put_mid-set v =
+      let e : b + j - b ≡ j = omega arith in
+      sym (set-append_right (take b xs) (ys ++ post_of b n xs) b (b + j) v low (omega arith)
+      ∙ ap (λ (k : ℕ). take b xs ++ set (ys ++ post_of b n xs) k v) e
+      ∙ ap (λ (zs : List ℕ). take b xs ++ zs) (set-append_left ys (post_of b n xs) j v hj))
+
+  get_or-put_mid : get_or (put_mid b n xs ys) (b + j) 0 ≡ get_or ys j 0
+  get_or-put_mid =
+      let e : b + j - b ≡ j = omega arith in
+      get_or-append_right (take b xs) (ys ++ post_of b n xs) b (b + j) 0 low (omega arith)
+      ∙ ap (λ (k : ℕ). get_or (ys ++ post_of b n xs) k 0) e
+      ∙ get_or_append_left ys (post_of b n xs) 0 j hj
+
+-- eight words are lent
+pub eight : (b : ℕ) (xs : List ℕ) → b + 8 ≤ length xs → length (mid_of b (b + 8 - b) xs) ≡ 8
+eight b xs h = simp (length-take, length-drop) (omega arith)
+
+pub partly_put : (t columns mask colour k v n : ℕ) (xs ys : List ℕ) → k < 8 → k < length ys → t / 8 * 8 + 8 ≤ length xs
+    → length ys ≡ length (mid_of (t / 8 * 8) n xs)
+    → ((a : ℕ) → held (put_mid (t / 8 * 8) n xs ys) a ≡ partly t columns mask colour k (held xs) a)
+    → v < 2 ^ 32 → v ≡ put (bit_and (wide (chosen columns k)) mask) colour (get_or ys k 0 % 2 ^ 32)
+    → (a : ℕ) → held (put_mid (t / 8 * 8) n xs (set ys k v)) a ≡ partly t columns mask colour (k + 1) (held xs) a
+partly_put t columns mask colour k v n xs ys hk hj hx long inv small e a =
+    let hb : t / 8 * 8 ≤ length xs = omega arith in
+    rw (put_mid-set (t / 8 * 8) n k xs ys hb hj v)
+    (partly_more t columns mask colour k v (held xs) (put_mid (t / 8 * 8) n xs ys) hk (omega (arith, same_len_mid (t / 8 * 8) n xs ys long)) inv small
+    (e ∙ ap (λ (x : ℕ). put (bit_and (wide (chosen columns k)) mask) colour (x % 2 ^ 32)) (sym (get_or-put_mid (t / 8 * 8) n k xs ys hb hj))) a)
+
 all_eight : (a t k : ℕ) → 8 ≤ k → (eqb (a / 8) (t / 8) && ltb (a % 8) k) ≡ eqb (a / 8) (t / 8)
 all_eight a t k h = grind (arith, nat_tests)
 
@@ -66,14 +92,6 @@ worded_by rows xs ys f past local e =
     (λ i. rw i.0 (e a ∙ local (held xs) (worded rows xs) a (rw i.0)))
     (λ o. let out : 512 * rows ≤ a = omega (arith, o.1) in rw o.0 (sym (past (worded rows xs) a out ∙ rw o.0)))
     (leb_tells (suc a) (512 * rows)))
-
-pub worded_written : (rows t mask word v : ℕ) (xs : List ℕ) → t < 512 * rows → 512 * rows ≤ length xs → v < 2 ^ 32 → v ≡ put mask word (held xs t)
-    → worded rows (set xs t v) ≡ written t mask word (worded rows xs)
-worded_written rows t mask word v xs h fit small e =
-    worded_by rows xs (set xs t v) (written t mask word)
-    (λ g a out. let ne : eqb a t ≡ false = grind (arith, nat_tests) in rw ne)
-    (λ g h a s. rw s)
-    (held_written t mask word v xs (omega arith) small e)
 
 pub worded_painted : (rows t columns mask colour : ℕ) (xs ys : List ℕ) → t < 512 * rows
     → ((a : ℕ) → held ys a ≡ painted t columns mask colour (held xs) a)

@@ -1,7 +1,8 @@
 ghost use Rattle.std.specs.Prelude.{◌≡◌, ℕ, ◌*◌, ◌/◌, ◌^◌, ◌<◌, ◌≤◌, min, List, length, drop, nat_le};
 ghost use Rattle.rules.specs.Cells.{written, painted};
 
-// How memory holds the words of a device of so many rows, 512 words a row.
+// How memory holds the words of a device of so many rows, 512 words a row. Memory and rows are two arguments: a struct of
+// both, with the fact that they fit, would be two, for `&` and for `&mut`, and be made anew at each clock.
 pub trait Layout {
     // what the memory is a slice of
     type Cell;

@@ -31,6 +31,7 @@ fn gather(bytes: &[u8], at: usize, k: usize) -> u32
     ensures { result ≡ number (λ i. bit (slice_index bytes.now (at + 64 * i)) k) 32 }
 {
     let mut found = 0u32;
+    // By an index: as a fold (tried), the closure owes that 2 * found fits whatever it is given.
     for i in (0..32).rev() {
         found = 2 * found + u32::from(bytes[at + 64 * i] >> k & 1);
     }
@@ -57,11 +58,12 @@ fn inked(colour: u32, i: usize) -> u32
     if colour >> i & 1 == 1 { 255 } else { 0 }
 }
 
-// One byte in each plane.
+// One byte in each plane. Columns, mask and colour are no struct: each is asked by itself below.
 fn paint(bytes: &mut [u8], at: usize, columns: u32, mask: u32, colour: u32)
     requires { at + 1984 < length bytes.old }
     ensures { bytes.new ≡ brushed at columns mask colour bytes.old 32 }
 {
+    // By an index: of what an adapter of iter_mut writes (tried, step_by), a proof knows nothing after the loop.
     for i in 0..32 {
         let p = at + 64 * i;
         let old = u32::from(bytes[p]);

@@ -51,9 +51,9 @@ impl Layout for Words {
         colour: u32,
     ) {
         let base = address / 8 * 8;
-        for k in 0..8 {
-            let reach = column(columns, k) & mask;
-            cells[base + k] = merged(reach, colour, cells[base + k]);
+        let block = &mut cells[base..base + 8];
+        for (k, word) in block.iter_mut().enumerate() {
+            *word = merged(column(columns, k) & mask, colour, *word);
         }
     }
 }

@@ -3,10 +3,9 @@
 
 mod report;
 
-use anyhow::anyhow;
-use console::{read_text, refusal_line};
-use report::{Report, clocks_of, compared, verdict_line};
-use std::env;
+use console::{exit_code, refusal_line, text_or_help};
+use report::{Report, compared, verdict_line};
+use rules::Pins;
 use std::process::ExitCode;
 use trace::lines;
 
@@ -20,24 +19,16 @@ number, and any place or line. Fields are parted by tabs.
 
 fn print_report(rt: &HostRuntime, report: &Report, clocks: usize) -> anyhow::Result<()> {
     println!(rt; "clocks\t{clocks}")?;
-    let line = verdict_line(rt.alloc(), "words", report.words, clocks)?;
-    println!(rt; "{line}")?;
-    let line = verdict_line(rt.alloc(), "planes", report.planes, clocks)?;
-    println!(rt; "{line}")?;
-    let line = verdict_line(
-        rt.alloc(),
-        "interlock over words",
-        report.over_words,
-        clocks,
-    )?;
-    println!(rt; "{line}")?;
-    let line = verdict_line(
-        rt.alloc(),
-        "interlock over planes",
-        report.over_planes,
-        clocks,
-    )?;
-    println!(rt; "{line}")?;
+    let verdicts = [
+        ("words", report.words),
+        ("planes", report.planes),
+        ("interlock over words", report.over_words),
+        ("interlock over planes", report.over_planes),
+    ];
+    for (name, fault) in verdicts {
+        let line = verdict_line(rt.alloc(), name, fault, clocks)?;
+        println!(rt; "{line}")?;
+    }
     if report.alike {
         println!(rt; "alike")?;
     } else {
@@ -47,16 +38,9 @@ fn print_report(rt: &HostRuntime, report: &Report, clocks: usize) -> anyhow::Res
 }
 
 fn run(rt: &HostRuntime) -> anyhow::Result<()> {
-    let mut args = env::args(rt)?;
-    let _ = args.next();
-    if let Some(word) = args.next() {
-        if word.as_str() != "--help" {
-            return Err(anyhow!("the only argument is --help"));
-        }
-        rt.print(HELP)?;
+    let Some(text) = text_or_help(rt, HELP)? else {
         return Ok(());
-    }
-    let text = read_text(rt)?;
+    };
     match lines(text.as_slice()) {
         Err(refusal) => {
             let line = refusal_line(rt.alloc(), refusal)?;
@@ -64,7 +48,7 @@ fn run(rt: &HostRuntime) -> anyhow::Result<()> {
         }
         Ok(trace) => {
             let sheet = trace.sheet;
-            let pins = clocks_of(rt.alloc(), text.as_slice(), trace.body, trace.clocks)?;
+            let pins: Vec<Pins> = trace.clocks().collect(rt.alloc())?;
             let report = compared(rt.alloc(), sheet, pins.as_slice())?;
             print_report(rt, &report, pins.len())?;
         }
@@ -73,11 +57,6 @@ fn run(rt: &HostRuntime) -> anyhow::Result<()> {
 }
 
 fn main(rt: HostRuntime) -> ExitCode {
-    match run(&rt) {
-        Ok(()) => ExitCode::SUCCESS,
-        Err(error) => {
-            let _ = eprintln!(rt; "compare: {error}");
-            ExitCode::FAILURE
-        }
-    }
+    let outcome = run(&rt);
+    exit_code(&rt, "compare", outcome)
 }

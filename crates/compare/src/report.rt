@@ -4,7 +4,6 @@ use interlock::{Interlock, alike, run_both};
 use rules::{Fault, Pins};
 use sheet::Sheet;
 use std::alloc::{AllocError, Global};
-use trace::pins_at;
 
 // What four devices made of one trace.
 #[derive(Clone, Copy)]
@@ -15,24 +14,6 @@ pub struct Report {
     pub over_planes: Option<Fault>,
     // all four drove the same, and are alike at the end
     pub alike: bool,
-}
-
-// The clocks of a trace's text, which begin at `start`.
-pub fn clocks_of(
-    heap: Global,
-    text: &[u8],
-    start: usize,
-    count: usize,
-) -> Result<Vec<Pins>, AllocError> {
-    let mut pins = Vec::new(heap);
-    if start <= text.len() {
-        for k in 0..count {
-            if let Some(p) = pins_at(&text[start..], k) {
-                pins.push(p)?;
-            }
-        }
-    }
-    Ok(pins)
 }
 
 // What a device and an interlock over another made of one trace.

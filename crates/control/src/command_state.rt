@@ -1,13 +1,10 @@
 // All of a device but its cells and the words on their way out.
-ghost use Rattle.std.specs.Prelude.{◌≡◌, ◌^◌, ◌<◌, true};
-ghost use Rattle.beats.specs.Inside.{row_in};
-ghost use Rattle.judging.specs.Pair.{pair};
-
 use beats::Ongoing;
 use judging::Table;
 use lines::{Delay, Marks};
 use rules::{Fault, Past, Registers, Steps};
 use sheet::Sheet;
+use std::marker::Model;
 
 mod asked;
 mod clocked;
@@ -31,7 +28,17 @@ pub struct Control {
     // the lanes driven at the last clock
     drove: u8,
     fault: Option<Fault>,
-    ghost counted: { clock < 2 ^ 62 },
-    ghost a_in: { row_in sheet.rows (pair table).a.row ≡ true },
-    ghost b_in: { row_in sheet.rows (pair table).b.row ≡ true },
+}
+
+// Clauses see the command state of the rules.
+impl Model for Control {
+    ghost use Rattle.rules.specs.State.{State};
+
+    ghost Value = { State };
+
+    ghost use Rattle.control.specs.View.{state_of, Bounded};
+
+    ghost view = { state_of };
+
+    ghost invariant = { λ c. Bounded (state_of c) };
 }

@@ -1,35 +1,22 @@
 -- The meaning of a device over cells in memory.
-use Rattle.std.specs.Prelude.{ℕ, ◌/◌, min, List, length, replicate}
+use Rattle.std.specs.Prelude.{◌≡◌, ℕ, ◌*◌, ◌/◌, min, List, length, drop, replicate}
 use Rattle.sheet.specs.declared.sheet.Sheet.{Sheet}
 use Rattle.sheet.specs.Lowered.{lowered}
-use Rattle.rules.specs.State.{State, switched_on}
+use Rattle.rules.specs.State.{switched_on}
 use Rattle.rules.specs.Meaning.{Meaning}
+use Rattle.cells.specs.declared.layout.Layout.{Ghosts}
+use Rattle.device.specs.declared.cell_device.CellDevice.{CellDevice}
 
--- the state with at most k rows
-abbrev pub fitted : State → ℕ → State
-fitted s k = record {
-  sheet = lowered s.sheet k;
-  clock = s.clock;
-  banks = s.banks;
-  registers = s.registers;
-  burst = s.burst;
-  reads = s.reads;
-  dqms = s.dqms;
-  steps = s.steps;
-  marks = s.marks;
-  past = s.past;
-  drove = s.drove;
-  fault = s.fault;
-}
+-- what a device is, where its layout says how the memory holds the words
+abbrev pub meaning_of : {L X : Type 0} {G : Ghosts L X} → CellDevice L X G → Meaning
+meaning_of {G = G} d = record { state = d.control; words = d.words; cells = G.words d.control.sheet.rows d.cells.now }
 
--- a row takes `row` elements of the memory, and `words` says how it holds the words; the device has as many of its
--- sheet's rows as the memory holds
-abbrev pub cell_meaning : {X : Type 0} → ℕ → (ℕ → List X → ℕ → ℕ) → List X → State → List ℕ → Meaning
-cell_meaning row words memory s line = record {
-  state = fitted s (length memory / row);
-  words = line;
-  cells = words (min s.sheet.rows (length memory / row)) memory;
-}
+-- what clocks leave as it is: the lender, the memory past the rows, its length and the sheet
+pub record Keeps {L X : Type 0} {G : Ghosts L X} (d e : CellDevice L X G) : Type 0 where
+  pub lender : e.cells.ghost_name ≡ d.cells.ghost_name
+  pub rest : drop (G.row * d.control.sheet.rows) e.cells.now ≡ drop (G.row * d.control.sheet.rows) d.cells.now
+  pub length : length e.cells.now ≡ length d.cells.now
+  pub sheet : e.control.sheet ≡ d.control.sheet
 
 -- how many of the sheet's rows the memory holds
 abbrev pub rows_in : {X : Type 0} → ℕ → Sheet → List X → ℕ

@@ -1,4 +1,6 @@
 // The command state over cells in lent memory, whatever their layout.
+ghost use Rattle.std.specs.Prelude.{◌*◌, ◌≤◌, length};
+
 use cells::{Layout, Planes, Words};
 use control::Control;
 use lines::Delay;
@@ -13,6 +15,8 @@ pub struct CellDevice<'a, L: Layout> {
     control: Control,
     // the words of the read beats in the line
     words: Delay<u32>,
+    // the memory holds the rows
+    ghost fit: { L.Layout.row * control.sheet.rows ≤ length cells.now },
 }
 
 // 512 words a row.

@@ -9,6 +9,7 @@ pub enum MemoryError {
 }
 
 impl MemoryError {
+    // By name and no `From`: a bare conversion would not say which number.
     pub fn number(self) -> u8
         ensures { result ≡ number_of self }
     {

@@ -4,7 +4,15 @@ use interlock::{Interlock, alike, run_both};
 use rules::{Fault, Pins};
 use sheet::{FIELDS, Sheet};
 use std::alloc::{AllocError, Global};
-use trace::pins_at;
+
+// Which device is the first of the two. By case and no closure: it has another type in each.
+#[derive(Clone, Copy, PartialEq, Eq, Debug)]
+pub enum First {
+    // the word device
+    Plain,
+    // an interlock over it
+    Guarded,
+}
 
 // What two devices did with one trace.
 #[derive(Clone, Copy)]
@@ -18,38 +26,19 @@ pub struct Outcome {
     pub word: u32,
 }
 
-// The clocks of some clock lines.
-pub fn clocks(heap: Global, lines: &[u8]) -> Result<Vec<Pins>, AllocError> {
-    let mut pins = Vec::new(heap);
-    for k in 0..lines.len() / 21 {
-        if let Some(p) = pins_at(lines, k) {
-            pins.push(p)?;
-        }
-    }
-    Ok(pins)
-}
-
-// The word device and the plane device.
-pub fn side_by_side(
-    heap: Global,
-    fields: [u64; FIELDS],
+fn compared<D: Device, E: Device>(
+    first: &mut D,
+    second: &mut E,
     pins: &[Pins],
     address: u32,
-) -> Result<Option<Outcome>, AllocError> {
-    let Ok(sheet) = Sheet::admit(fields) else {
-        return Ok(None);
-    };
-    let mut words = vec![in heap; 0u32; 4096]?;
-    let mut planes = vec![in heap; 0u8; 16384]?;
-    let mut first: CellDevice<'_, Words> = CellDevice::new(&mut words, sheet);
-    let mut second: CellDevice<'_, Planes> = CellDevice::new(&mut planes, sheet);
-    let agreed = run_both(&mut first, &mut second, pins);
-    Ok(Some(Outcome {
+) -> Outcome {
+    let agreed = run_both(first, second, pins);
+    Outcome {
         agreed,
-        alike: alike(&first, &second),
+        alike: alike(&*first, &*second),
         fault: first.fault(),
         word: first.word(address),
-    }))
+    }
 }
 
 // An interlock over the first device, and the second as it is.
@@ -60,18 +49,13 @@ fn under_interlock<D: Device, E: Device>(
     address: u32,
 ) -> Outcome {
     let mut first = Interlock::new(below);
-    let agreed = run_both(&mut first, second, pins);
-    Outcome {
-        agreed,
-        alike: alike(&first, &*second),
-        fault: first.fault(),
-        word: first.word(address),
-    }
+    compared(&mut first, second, pins, address)
 }
 
-// An interlock over the word device, and the plane device as it is.
-pub fn guarded(
+// The word device, or an interlock over it, and the plane device.
+pub fn side_by_side(
     heap: Global,
+    first: First,
     fields: [u64; FIELDS],
     pins: &[Pins],
     address: u32,
@@ -81,7 +65,11 @@ pub fn guarded(
     };
     let mut words = vec![in heap; 0u32; 4096]?;
     let mut planes = vec![in heap; 0u8; 16384]?;
-    let mut first: CellDevice<'_, Words> = CellDevice::new(&mut words, sheet);
-    let mut second: CellDevice<'_, Planes> = CellDevice::new(&mut planes, sheet);
-    Ok(Some(under_interlock(&mut first, &mut second, pins, address)))
+    let mut word_device: CellDevice<'_, Words> = CellDevice::new(&mut words, sheet);
+    let mut plane_device: CellDevice<'_, Planes> = CellDevice::new(&mut planes, sheet);
+    let seen = match first {
+        First::Plain => compared(&mut word_device, &mut plane_device, pins, address),
+        First::Guarded => under_interlock(&mut word_device, &mut plane_device, pins, address),
+    };
+    Ok(Some(seen))
 }

@@ -1,7 +1,8 @@
-use crate::pairs::{clocks, guarded, side_by_side};
+use crate::pairs::{First, side_by_side};
 use rules::Pins;
 use std::alloc::Global;
 use std::test::Fail;
+use trace::Clocks;
 
 const SMALL: [u64; 13] = [1, 4, 1, 1, 1, 2048, 2, 1, 1, 1, 4, 5120, 0];
 
@@ -13,10 +14,17 @@ const POWER_UP: &[u8] =
 const DRAWN: &[u8] =
     b"LLHLL\t0\t100\t00000000\nLLLLL\t0\t01A\t00000000\nLHHHL\t0\t000\t00000000\nLLLHL\t0\t000\t00000000\nLHHHL\t0\t000\t00000000\nLLLHL\t0\t000\t00000000\nLHHHL\t0\t000\t00000000\nLLLLH\t0\t020\t00FFFF0F\nLHHHL\t0\t000\t00000000\nLLLLH\t0\t040\tA1B2C3D4\nLHHHL\t0\t000\t00000000\nLLHHH\t0\t202\t00000000\nLHLLL\t8\t205\t12345678\nLHHHL\t0\t000\t9ABCDEF0\nLHHHL\t4\t000\t0F1E2D3C\nLHHHL\t0\t000\tFFFFFFFF\nLHLLH\t1\t210\t03000003\nLHLHL\t0\t205\t00000000\nLHHHL\t0\t000\t00000000\nLHHHL\t2\t000\t00000000\nLHHHL\t0\t000\t00000000\nLHHHL\t0\t000\t00000000\n";
 
+fn clocks(heap: Global, lines: &[u8]) -> Result<Vec<Pins>, Fail> {
+    let clocks = Clocks::read(lines).ok().ok_or("no clocks")?;
+    Ok(clocks.collect(heap)?)
+}
+
 #[test]
 fn both_draw_the_same(rt: HostRuntime) -> Result<(), Fail> {
     let pins = clocks(rt.alloc(), DRAWN)?;
-    let seen = side_by_side(rt.alloc(), SMALL, pins.as_slice(), 1541)?.ok_or("no sheet")?;
+    let seen = side_by_side(rt.alloc(), First::Plain, SMALL, pins.as_slice(), 1541)?.ok_or(
+        "no sheet",
+    )?;
     assert!(rt; seen.agreed);
     assert!(rt; seen.alike);
     assert!(rt; seen.fault.is_none());
@@ -32,7 +40,9 @@ fn both_fail_at_the_same_clock(rt: HostRuntime) -> Result<(), Fail> {
         b"LHLHL\t0\t005\t00000000\nLHHHL\t0\t000\t00000000\n",
     )?;
     pins.extend_from_slice(more.as_slice())?;
-    let seen = side_by_side(rt.alloc(), SMALL, pins.as_slice(), 0)?.ok_or("no sheet")?;
+    let seen = side_by_side(rt.alloc(), First::Plain, SMALL, pins.as_slice(), 0)?.ok_or(
+        "no sheet",
+    )?;
     assert!(rt; seen.agreed);
     assert!(rt; seen.alike);
     let fault = seen.fault.ok_or("no fault")?;
@@ -44,7 +54,9 @@ fn both_fail_at_the_same_clock(rt: HostRuntime) -> Result<(), Fail> {
 #[test]
 fn an_interlock_shows_the_same(rt: HostRuntime) -> Result<(), Fail> {
     let pins = clocks(rt.alloc(), DRAWN)?;
-    let seen = guarded(rt.alloc(), SMALL, pins.as_slice(), 1541)?.ok_or("no sheet")?;
+    let seen = side_by_side(rt.alloc(), First::Guarded, SMALL, pins.as_slice(), 1541)?.ok_or(
+        "no sheet",
+    )?;
     assert!(rt; seen.agreed);
     assert!(rt; seen.alike);
     assert_eq!(rt; seen.word, 0x0034_5608);

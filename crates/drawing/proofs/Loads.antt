@@ -9,9 +9,10 @@ use Rattle.schedule.specs.Fit.{Loadable}
 use Rattle.schedule.specs.After.{after}
 use Rattle.schedule.proofs.Lines.{none_in_silent}
 use Rattle.sequences.specs.Times.{waited}
-use Rattle.drawing.specs.declared.registers.Register.{Register}
-use Rattle.drawing.specs.declared.registers.Register.TheVariants.{Mask, Colour}
-use Rattle.drawing.specs.Registers.{code_of, load_time, with_register}
+use Rattle.rules.specs.declared.state.Register.{Register}
+use Rattle.rules.specs.declared.state.Register.TheVariants.{Mask, Colour}
+use Rattle.rules.specs.Step.{code_of}
+use Rattle.drawing.specs.Registers.{load_time, with_register}
 
 pub coded : (r : Register) → code_of r < 1024
 coded Mask = omega arith

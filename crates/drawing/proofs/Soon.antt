@@ -11,8 +11,9 @@ use Rattle.schedule.specs.After.{after}
 use Rattle.sequences.specs.Times.{waited, column_time}
 use Rattle.accesses.specs.Speed.{InRow}
 use Rattle.accesses.proofs.Soon.{one_row, open_same}
-use Rattle.drawing.specs.declared.registers.Register.{Register}
-use Rattle.drawing.specs.Registers.{code_of, load_time, with_register}
+use Rattle.rules.specs.declared.state.Register.{Register}
+use Rattle.rules.specs.Step.{code_of}
+use Rattle.drawing.specs.Registers.{load_time, with_register}
 use Rattle.drawing.specs.Drawn.{with_aimed, with_row_written, blocks, with_blocks, with_row_filled, with_stored, with_filled}
 use Rattle.drawing.specs.Speed.{OpenRow, Differs, DrawnSoon}
 use Rattle.drawing.proofs.Writes.{writes_clock}

@@ -1,16 +1,13 @@
--- The registers: their codes, and the ledger after a load.
+-- The registers, and the ledger after a load.
 use Rattle.std.specs.Prelude.{ℕ, ◌+◌, max, cond, ◌==◌}
 use Rattle.sheet.specs.declared.sheet.Sheet.{Sheet}
 use Rattle.rules.specs.declared.pins.Command.TheVariants.{LoadSpecial}
 use Rattle.schedule.specs.declared.ledger.Ledger.{Ledger}
+use Rattle.rules.specs.Step.{code_of}
 use Rattle.schedule.specs.After.{after}
 use Rattle.sequences.specs.Times.{waited}
-use Rattle.drawing.specs.declared.registers.Register.{Register}
-use Rattle.drawing.specs.declared.registers.Register.TheVariants.{Mask, Colour}
-
-abbrev pub code_of : Register → ℕ
-code_of Mask = 0x20
-code_of Colour = 0x40
+use Rattle.rules.specs.declared.state.Register.{Register}
+use Rattle.rules.specs.declared.state.Register.TheVariants.{Mask, Colour}
 
 -- what a register holds
 abbrev pub register : Ledger → Register → ℕ

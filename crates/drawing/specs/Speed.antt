@@ -6,7 +6,7 @@ use Rattle.schedule.specs.Ledger.{track, next}
 use Rattle.schedule.specs.Places.{bank_of, row_of}
 use Rattle.sequences.specs.Times.{column_time}
 use Rattle.accesses.specs.Speed.{InRow}
-use Rattle.drawing.specs.declared.registers.Register.{Register}
+use Rattle.rules.specs.declared.state.Register.{Register}
 use Rattle.drawing.specs.Registers.{register, load_time, with_register}
 use Rattle.drawing.specs.Drawn.{blocks, with_stored, with_filled}
 

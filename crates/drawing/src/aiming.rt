@@ -3,7 +3,7 @@ ghost use Rattle.schedule.specs.Ledger.{Timely};
 ghost use Rattle.schedule.specs.Fit.{Reachable};
 ghost use Rattle.schedule.specs.After.{address as place_of};
 ghost use Rattle.schedule.specs.Places.{bank_of};
-ghost use Rattle.sequences.specs.Gone.{Stands, Gone};
+ghost use Rattle.sequences.specs.Gone.{Gone};
 ghost use Rattle.drawing.specs.Drawn.{with_aimed};
 
 use accesses::locate;
@@ -13,7 +13,6 @@ use sequences::Channel;
 
 // Opens the row of an address, and waits until data can be written to its columns; answers bank and column.
 pub fn aim<D: Device>(channel: &mut Channel<D>, address: u32) -> (BankName, u8)
-    requires stands { Stands D.Device.reachable D.Device.meaning channel.old }
     requires inside { address < channel.old.sheet.rows * 512 }
     requires timely { Timely channel.old.ledger (channel.old.ledger.clock + 146) }
     ensures bank { result.0 ≡ bank_of channel.old.sheet.rows address }

@@ -4,7 +4,7 @@ ghost use Rattle.schedule.specs.Ledger.{Timely};
 ghost use Rattle.schedule.specs.Fit.{Reachable};
 ghost use Rattle.schedule.specs.After.{address as place_of};
 ghost use Rattle.schedule.specs.Spread.{spread, columns};
-ghost use Rattle.sequences.specs.Gone.{Stands, Gone};
+ghost use Rattle.sequences.specs.Gone.{Gone};
 ghost use Rattle.drawing.specs.Drawn.{with_blocks, blocks, with_row_filled, with_filled};
 
 use crate::aiming::aim;
@@ -23,7 +23,6 @@ fn columns(lo: u32, hi: u32) -> u32
 
 // n words of an open row, from a column on: block writes, each as soon as it may come.
 fn fill_row<D: Device>(channel: &mut Channel<D>, bank: BankName, column: u8, n: u32)
-    requires stands { Stands D.Device.reachable D.Device.meaning channel.old }
     requires inside { column + n ≤ 256 }
     requires columns { Reachable channel.old.sheet channel.old.ledger bank false }
     requires bus { channel.old.ledger.bus ≤ channel.old.ledger.clock + 1 }
@@ -31,12 +30,14 @@ fn fill_row<D: Device>(channel: &mut Channel<D>, bank: BankName, column: u8, n: 
     ensures ledger { channel.new.ledger ≡ with_blocks channel.old.sheet bank (blocks column n) channel.old.ledger }
     ensures gone { Gone D.Device.reachable D.Device.meaning channel.old channel.new [] (spread (D.Device.meaning channel.old.device).cells (place_of channel.old.sheet channel.old.ledger bank column) n channel.old.ledger.mask (λ _. channel.old.ledger.colour)) }
 {
-    let first = column as u32 % 8;
+    let first = u32::from(column) % 8;
+    let spacing = u64::from(channel.sheet.bwc);
+    // i is the block, counted from that of the first word.
     for i in 0..(first + n + 7) / 8 {
         let low = first.saturating_sub(8 * i);
         let high = (first + n - 8 * i).min(8);
-        let t = channel.ledger.block + channel.sheet.bwc as u64;
-        let column = (column as u32 - first + 8 * i) as u8;
+        let t = channel.ledger.block + spacing;
+        let column = (u32::from(column) - first + 8 * i) as u8;
         channel.give_at(
             t,
             Command::Column {
@@ -52,7 +53,6 @@ fn fill_row<D: Device>(channel: &mut Channel<D>, bank: BankName, column: u8, n: 
 
 // Words of one row.
 fn fill_at<D: Device>(channel: &mut Channel<D>, address: u32, n: u32)
-    requires stands { Stands D.Device.reachable D.Device.meaning channel.old }
     requires inside { address < channel.old.sheet.rows * 512 }
     requires one_row { address % 256 + n ≤ 256 }
     requires timely { Timely channel.old.ledger (channel.old.ledger.clock + (147 + 7 * blocks (address % 256) n)) }
@@ -68,7 +68,6 @@ fn fill_at<D: Device>(channel: &mut Channel<D>, address: u32, n: u32)
 
 // At most 256 words, which lie in one row or in two, in the bits of the mask register.
 pub fn paint<D: Device>(channel: &mut Channel<D>, address: u32, n: u32)
-    requires stands { Stands D.Device.reachable D.Device.meaning channel.old }
     requires some { 1 ≤ n }
     requires most { n ≤ 256 }
     requires inside { address + n ≤ channel.old.sheet.rows * 512 }

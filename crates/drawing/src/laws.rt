@@ -1,8 +1,6 @@
 ghost use Rattle.drawing.specs.Speed.{DrawnSoon};
 
-// How soon words of one row are written and filled; it computes nothing.
-pub fn drawn_soon() -> u8
+// How soon words of one row are written and filled.
+pub fn drawn_soon()
     ensures { DrawnSoon }
-{
-    0
-}
+{}

@@ -11,5 +11,5 @@ mod writing;
 pub use aiming::aim;
 pub use filling::paint;
 pub use laws::drawn_soon;
-pub use registers::{Register, load};
+pub use registers::load;
 pub use writing::store;

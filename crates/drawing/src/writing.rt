@@ -4,7 +4,7 @@ ghost use Rattle.schedule.specs.Ledger.{Timely};
 ghost use Rattle.schedule.specs.Fit.{Reachable};
 ghost use Rattle.schedule.specs.After.{address as place_of};
 ghost use Rattle.schedule.specs.Writing.{all_written};
-ghost use Rattle.sequences.specs.Gone.{Stands, Gone};
+ghost use Rattle.sequences.specs.Gone.{Gone};
 ghost use Rattle.drawing.specs.Drawn.{with_writes, with_row_written, with_stored};
 
 use crate::aiming::aim;
@@ -14,7 +14,6 @@ use sequences::Channel;
 
 // Words to an open row, from a column on: a clock for each.
 fn write_row<D: Device>(channel: &mut Channel<D>, bank: BankName, column: u8, words: &[u32])
-    requires stands { Stands D.Device.reachable D.Device.meaning channel.old }
     requires inside { column + length words.now ≤ 256 }
     requires columns { Reachable channel.old.sheet channel.old.ledger bank false }
     requires bus { channel.old.ledger.bus ≤ channel.old.ledger.clock + 1 }
@@ -22,7 +21,9 @@ fn write_row<D: Device>(channel: &mut Channel<D>, bank: BankName, column: u8, wo
     ensures ledger { channel.new.ledger ≡ with_writes bank (length words.now) channel.old.ledger }
     ensures gone { Gone D.Device.reachable D.Device.meaning channel.old channel.new [] (all_written (place_of channel.old.sheet channel.old.ledger bank column) channel.old.ledger.mask words.now (D.Device.meaning channel.old.device).cells) }
 {
-    for j in 0..words.len() {
+    // opens the channel: the loop begins with what its type says
+    let _ = &channel.ledger;
+    for (j, word) in words.iter().enumerate() {
         let column = column + j as u8;
         channel.give(
             Command::Column {
@@ -31,14 +32,13 @@ fn write_row<D: Device>(channel: &mut Channel<D>, bank: BankName, column: u8, wo
                 a8: false,
                 column,
             },
-            words[j],
+            *word,
         );
     }
 }
 
 // Words to one row.
 fn write_at<D: Device>(channel: &mut Channel<D>, address: u32, words: &[u32])
-    requires stands { Stands D.Device.reachable D.Device.meaning channel.old }
     requires inside { address < channel.old.sheet.rows * 512 }
     requires one_row { address % 256 + length words.now ≤ 256 }
     requires timely { Timely channel.old.ledger (channel.old.ledger.clock + (147 + length words.now)) }
@@ -53,7 +53,6 @@ fn write_at<D: Device>(channel: &mut Channel<D>, address: u32, words: &[u32])
 
 // At most 256 words, which lie in one row or in two, in the bits of the mask register.
 pub fn store<D: Device>(channel: &mut Channel<D>, address: u32, words: &[u32])
-    requires stands { Stands D.Device.reachable D.Device.meaning channel.old }
     requires some { 1 ≤ length words.now }
     requires most { length words.now ≤ 256 }
     requires inside { address + length words.now ≤ channel.old.sheet.rows * 512 }

@@ -1,3 +1,5 @@
 pub mod Accepting
 pub mod Waked
-pub mod Serving
+pub mod Answering
+pub mod Telling
+pub mod Resting

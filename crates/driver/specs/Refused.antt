@@ -1,12 +1,7 @@
 -- Which requests are turned away.
 use Rattle.std.specs.Prelude.{ℕ, ◌-◌, ◌*◌, ◌^◌, cond, ◌||◌, Some, None, Option, ◌==◌, nat_le, nat_lt}
-use Rattle.driver.specs.declared.refusal.Refusal.{Refusal}
-use Rattle.driver.specs.declared.refusal.Refusal.TheVariants.{Address, Length, Count}
-
-abbrev pub number_of : Refusal → ℕ
-number_of Address = 21
-number_of Length = 22
-number_of Count = 23
+use Rattle.book.specs.declared.refusal.Refusal.{Refusal}
+use Rattle.book.specs.declared.refusal.Refusal.TheVariants.{Address, Length, Count}
 
 -- the count is near its end
 abbrev pub count_refusal : ℕ → Option Refusal

@@ -1,4 +1,4 @@
--- What a request is answered.
+-- What a read and a wait are answered, told without the book.
 use Rattle.std.specs.Prelude.{◌≡◌, ℕ, ◌+◌, ◌≤◌, List, [], length, Some, None, Ok, Err, Result}
 use Rattle.sheet.specs.declared.sheet.Sheet.{Sheet}
 use Rattle.rules.specs.Meaning.{Meaning}
@@ -6,7 +6,7 @@ use Rattle.schedule.specs.declared.ledger.Ledger.{Ledger}
 use Rattle.schedule.specs.Stretch.{Stretch, span}
 use Rattle.sequences.specs.Times.{tidied}
 use Rattle.accesses.specs.Rows.{with_fetched}
-use Rattle.driver.specs.declared.refusal.Refusal.{Refusal}
+use Rattle.book.specs.declared.refusal.Refusal.{Refusal}
 use Rattle.driver.specs.Refused.{refusal, wait_refusal}
 
 -- n clocks led from m to m' with no fault; the words driven on all lanes in them are just ws, and the cells are then f

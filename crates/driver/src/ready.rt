@@ -1,3 +1,5 @@
+ghost use Rattle.driver.specs.States.{Rest};
+
 use device::Device;
 use sequences::Channel;
 
@@ -5,4 +7,6 @@ use sequences::Channel;
 #[derive(Drop)]
 pub struct Ready<D: Device> {
     pub(crate) channel: Channel<D>,
+    // between requests
+    pub ghost rest: { ∥ Rest D.Device.reachable D.Device.meaning channel ∥₁ },
 }

@@ -4,14 +4,14 @@ ghost use Rattle.rules.specs.Meaning.{switch_on, run};
 ghost use Rattle.rules.specs.Cases.{nop};
 ghost use Rattle.schedule.specs.Stretch.{Stretch};
 ghost use Rattle.schedule.specs.Waking.{settled, primed, priming_pins};
-ghost use Rattle.driver.specs.States.{IsSettled, Rest};
+ghost use Rattle.driver.specs.States.{IsSettled};
 
 use crate::off::Off;
 use crate::ready::Ready;
 use crate::settled::Settled;
 use device::Device;
 use orders::pins_for;
-use rules::{BankName, Command};
+use rules::{Command, Target};
 use schedule::{Ledger, Track};
 use sequences::Channel;
 use sheet::Sheet;
@@ -33,13 +33,7 @@ fn wake<D: Device>(device: &mut D, sheet: Sheet)
     ensures reachable { D.Device.reachable device.new }
     ensures after { D.Device.meaning device.new ≡ run (D.Device.meaning device.old) (priming_pins sheet) }
 {
-    let close = pins_for(
-        Command::Precharge {
-            both: true,
-            bank: BankName::A,
-        },
-        0,
-    );
+    let close = pins_for(Command::Precharge(Target::Both), 0);
     let load = pins_for(
         Command::LoadMode {
             code: (sheet.cl * 16) as u16,
@@ -60,17 +54,17 @@ fn wake<D: Device>(device: &mut D, sheet: Sheet)
 fn first_ledger(sheet: Sheet) -> Ledger
     ensures { result ≡ primed sheet (sheet.pup + 1) (sheet.pup + (sheet.rp + sheet.rc + 3)) }
 {
-    let clock = (sheet.pup + (sheet.rp + sheet.rc + 3)) as u64;
+    let clock = u64::from(sheet.pup + (sheet.rp + sheet.rc + 3));
     let idle = Track {
         row: None,
         opened: 0,
-        closed: (sheet.pup + 1) as u64,
+        closed: u64::from(sheet.pup + 1),
         written: 0,
     };
     Ledger {
         clock,
-        due: clock + ((sheet.ret - 1024) / sheet.n) as u64,
-        free: clock + sheet.rc as u64,
+        due: clock + u64::from((sheet.ret - 1024) / sheet.n),
+        free: clock + u64::from(sheet.rc),
         bus: 0,
         block: 0,
         mask: 0,
@@ -83,8 +77,8 @@ fn first_ledger(sheet: Sheet) -> Ledger
 impl<D: Device> Off<D> {
     // Switches the device on and lets its pause pass.
     pub fn settle(self) -> Settled<D>
-        ensures after { D.Device.meaning result.device ≡ settled (D.Device.meaning self.device).state.sheet (D.Device.meaning self.device).cells }
-        ensures stretch { Stretch (switch_on (D.Device.meaning self.device)) (D.Device.meaning result.device) (D.Device.meaning self.device).state.sheet.pup [] }
+        ensures after { D.Device.meaning result ≡ settled (D.Device.meaning self.device).state.sheet (D.Device.meaning self.device).cells }
+        ensures stretch { Stretch (switch_on (D.Device.meaning self.device)) (D.Device.meaning result) (D.Device.meaning self.device).state.sheet.pup [] }
         ensures settled { IsSettled D.Device.reachable D.Device.meaning result }
     {
         let Off { mut device } = self;
@@ -98,12 +92,13 @@ impl<D: Device> Off<D> {
 impl<D: Device> Settled<D> {
     // Closes both banks, loads the mode and refreshes twice.
     pub fn prime(self) -> Ready<D>
-        requires { IsSettled D.Device.reachable D.Device.meaning self }
-        ensures stretch { Stretch (D.Device.meaning self.device) (D.Device.meaning result.channel.device) ((D.Device.meaning self.device).state.sheet.rp + (D.Device.meaning self.device).state.sheet.rc + 3) [] }
-        ensures few { (D.Device.meaning self.device).state.sheet.rp + (D.Device.meaning self.device).state.sheet.rc + 3 ≤ 700 }
-        ensures cells { (D.Device.meaning result.channel.device).cells ≡ (D.Device.meaning self.device).cells }
-        ensures sheet { result.channel.sheet ≡ (D.Device.meaning self.device).state.sheet }
-        ensures rest { Rest D.Device.reachable D.Device.meaning result }
+        ensures stretch { Stretch (D.Device.meaning self) (D.Device.meaning result.channel.device) ((D.Device.meaning self).state.sheet.rp + (D.Device.meaning self).state.sheet.rc + 3) [] }
+        ensures few { (D.Device.meaning self).state.sheet.rp + (D.Device.meaning self).state.sheet.rc + 3 ≤ 700 }
+        ensures cells { (D.Device.meaning result.channel.device).cells ≡ (D.Device.meaning self).cells }
+        ensures kept { (D.Device.meaning result.channel.device).state.sheet ≡ (D.Device.meaning self).state.sheet }
+        ensures count { (D.Device.meaning result.channel.device).state.clock ≡ (D.Device.meaning self).state.sheet.pup + ((D.Device.meaning self).state.sheet.rp + (D.Device.meaning self).state.sheet.rc + 3) }
+        ensures sheet { result.channel.sheet ≡ (D.Device.meaning self).state.sheet }
+        ensures ledger { result.channel.ledger ≡ primed (D.Device.meaning self).state.sheet ((D.Device.meaning self).state.sheet.pup + 1) ((D.Device.meaning self).state.sheet.pup + ((D.Device.meaning self).state.sheet.rp + (D.Device.meaning self).state.sheet.rc + 3)) }
     {
         let Settled { mut device } = self;
         let sheet = device.sheet();
@@ -121,7 +116,8 @@ impl<D: Device> Settled<D> {
 impl<D: Device> Ready<D> {
     // Gives the device back; a new driver can settle it again.
     pub fn release(self) -> D
-        ensures { result ≡ self.channel.device }
+        ensures device { result ≡ self.channel.device }
+        ensures reachable { D.Device.reachable result }
     {
         let Ready { channel } = self;
         let Channel {

@@ -1,18 +1,16 @@
 use crate::runs::clocks_of;
+use crate::tests::GRADE;
 use cells::Words;
 use device::CellDevice;
 use driver::Refusal;
 use sheet::Sheet;
 use std::test::Fail;
 
-// The -10 grade, with four rows.
-const GRADE: [u64; 13] = [3, 4, 3, 3, 6, 12_000, 10, 3, 1, 1, 1_024, 1_600_000, 100];
-
 #[test]
 fn reads_in_time(rt: HostRuntime) -> Result<(), Fail> {
     let mut memory = vec![in rt.alloc(); 0u32; 2048]?;
-    for i in 0..memory.len() {
-        memory[i] = i as u32;
+    for (address, word) in memory.iter_mut().enumerate() {
+        *word = address as u32;
     }
     let Ok(sheet) = Sheet::admit(GRADE) else {
         return Err(Fail::new("no sheet"));

@@ -7,7 +7,8 @@ use Rattle.rules.specs.declared.state.Work.{Work}
 use Rattle.rules.specs.declared.state.Work.TheVariants.{Nothing, Take, Store, Paint}
 use Rattle.rules.specs.Words.{put, wide, chosen}
 use Rattle.rules.specs.Pins.{command}
-use Rattle.rules.specs.State.{State, is_some, switched_on}
+use Rattle.rules.specs.State.{State, switched_on}
+use Rattle.std.specs.Option.{is_some}
 use Rattle.rules.specs.Delay.{passed}
 use Rattle.rules.specs.Faults.{found}
 use Rattle.rules.specs.Step.{moved, failed}

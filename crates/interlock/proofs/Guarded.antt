@@ -1,11 +1,12 @@
 -- What a clock makes of an interlock and of the device below it.
-use Rattle.std.proofs.Common.{◌≡◌, ℕ, true, Some, None, Ok, Err, Option, sym, refl, ap, ◌∙◌, subst, arith}
+use Rattle.std.proofs.Common.{◌≡◌, ℕ, true, Some, None, Ok, Err, Option, sym, refl, ap, ◌∙◌, subst}
 use Rattle.rules.specs.declared.pins.Pins.{Pins}
 use Rattle.rules.specs.declared.pins.Command.{Command}
 use Rattle.rules.specs.declared.fault.Rule.{Rule}
 use Rattle.rules.specs.declared.fault.Fault.{Fault}
 use Rattle.rules.specs.Pins.{command}
-use Rattle.rules.specs.State.{State, is_some}
+use Rattle.rules.specs.State.{State}
+use Rattle.std.specs.Option.{is_some}
 use Rattle.rules.specs.Faults.{found}
 use Rattle.rules.specs.Step.{step_by, stepped}
 use Rattle.rules.specs.Meaning.{Meaning, step, out}
@@ -19,17 +20,17 @@ fails_by : (x : Option Fault) (y : Option Rule) (s : State) (p : Pins) (c : Comm
     → (step_by x y s p c ≡ faulted s (step_by x y s p c).fault) × (is_some (step_by x y s p c).fault ≡ true)
 fails_by (Some g) y s p c f h e = (refl, ap is_some h)
 fails_by None (Some k) s p c f h e = (refl, refl)
-fails_by None None s p c f h e = let z : ◌≡◌ {A = ℕ} 0 1 = cc in absurd (omega arith)
+fails_by None None s p c f h e = cc
 
 -- one that is no fault begins and ends without one
 goes_by : (x : Option Fault) (y : Option Rule) (s : State) (p : Pins) (c : Command) (r : Moved) → s.fault ≡ x → Ok r ≡ answer_by x y s p
     → (x ≡ None) × ((step_by x y s p c).fault ≡ None)
-goes_by (Some g) y s p c r h e = let z : ◌≡◌ {A = ℕ} 0 1 = cc in absurd (omega arith)
-goes_by None (Some k) s p c r h e = let z : ◌≡◌ {A = ℕ} 0 1 = cc in absurd (omega arith)
+goes_by (Some g) y s p c r h e = cc
+goes_by None (Some k) s p c r h e = cc
 goes_by None None s p c r h e = (refl, h)
 
 apart : {X : Type 0} (f : Option X) → f ≡ None → is_some f ≡ true → ⊥
-apart f e h = let z : ◌≡◌ {A = ℕ} 0 1 = cc in omega arith
+apart f e h = cc
 
 -- a clock that is a fault, or comes after one
 pub held : (m : Meaning) (s t : State) (p : Pins) (f : Fault) → Guards m s → t ≡ stepped s p → Err f ≡ answered s p

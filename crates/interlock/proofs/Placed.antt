@@ -14,8 +14,8 @@ use Rattle.rules.specs.declared.state.Length.{Length}
 use Rattle.rules.specs.declared.state.Length.TheVariants.{One, Two, Four, Eight}
 use Rattle.rules.specs.declared.state.Mode.{Mode}
 use Rattle.rules.specs.declared.state.Burst.{Burst}
-use Rattle.rules.specs.declared.state.Row.{Row}
-use Rattle.rules.specs.declared.state.Row.TheVariants.{Idle, Active}
+use Rattle.rules.specs.declared.state.OpenRow.{OpenRow}
+use Rattle.rules.specs.declared.pins.Target.{Target}
 use Rattle.rules.specs.declared.state.Registers.{Registers}
 use Rattle.rules.specs.Pins.{decoded, command}
 use Rattle.rules.specs.State.{State, at, beats_in, ready, switched_on}
@@ -45,7 +45,7 @@ Columned Nop = Unit {0}
 Columned Stop = Unit {0}
 Columned (Column k b h c) = c < 256
 Columned (Activate m b r) = Unit {0}
-Columned (Precharge both b) = Unit {0}
+Columned (Precharge w) = Unit {0}
 Columned Refresh = Unit {0}
 Columned (LoadMode a) = Unit {0}
 Columned (LoadSpecial a) = Unit {0}
@@ -79,9 +79,9 @@ kept_burst : (closed : Bool) (u : Burst) → HeldIn (Some u) → HeldIn (cond cl
 kept_burst true u h = tt
 kept_burst false u h = h
 
-left_in : (both : Bool) (b : BankName) (u : Option Burst) → HeldIn u → HeldIn (unless_closed both b u)
-left_in both b None h = tt
-left_in both b (Some u) h = kept_burst (closes both b u.bank) u h
+left_in : (w : Target) (u : Option Burst) → HeldIn u → HeldIn (unless_closed w u)
+left_in w None h = tt
+left_in w (Some u) h = kept_burst (closes w u.bank) u h
 
 current_in : (o : Mode) (u : Option Burst) (c : Command) → Columned c → HeldIn u → HeldIn (current o u c)
 current_in o u Inhibit k h = h
@@ -89,7 +89,7 @@ current_in o u Nop k h = h
 current_in o u Stop k h = tt
 current_in o u (Column x b g c) k h = begun_in o x b c k
 current_in o u (Activate m b r) k h = h
-current_in o u (Precharge both b) k h = left_in both b u h
+current_in o u (Precharge w) k h = left_in w u h
 current_in o u Refresh k h = h
 current_in o u (LoadMode a) k h = h
 current_in o u (LoadSpecial a) k h = h
@@ -125,12 +125,12 @@ placed_below : (rows : ℕ) (b : BankName) (r c : ℕ) → r < rows → c < 256 
 placed_below rows A r c h k = omega arith
 placed_below rows B r c h k = omega arith
 
-row_taken : (rows : ℕ) (o : Registers) (p : Pins) (k : Access) (b : BankName) (c : ℕ) (r : Row) (f g : ℕ → ℕ)
+row_taken : (rows : ℕ) (o : Registers) (p : Pins) (k : Access) (b : BankName) (c : ℕ) (r : Option OpenRow) (f g : ℕ → ℕ)
     → row_in rows r ≡ true → (k ≡ Read → c < 256) → SameWords rows f g → taken (work_in rows o p k b c r) f ≡ taken (work_in rows o p k b c r) g
-row_taken rows o p k b c Idle f g h i same = refl
-row_taken rows o p Read b c (Active r m) f g h i same = same _ (placed_below rows b r c (ltb-true _ _ h) (i refl))
-row_taken rows o p Write b c (Active r m) f g h i same = refl
-row_taken rows o p Block b c (Active r m) f g h i same = refl
+row_taken rows o p k b c None f g h i same = refl
+row_taken rows o p Read b c (Some r) f g h i same = same _ (placed_below rows b r.row c (ltb-true _ _ h) (i refl))
+row_taken rows o p Write b c (Some r) f g h i same = refl
+row_taken rows o p Block b c (Some r) f g h i same = refl
 
 bank_in : (s : State) (b : BankName) → Placed s → row_in s.sheet.rows (at s.banks b).row ≡ true
 bank_in s A h = h.a
@@ -153,7 +153,7 @@ beat_taken s p (Column Write b x c) u f g h k same = burst_taken s p u f g h k s
 beat_taken s p (Column Block b x c) u f g h k same =
     row_taken s.sheet.rows s.registers p Block b c (at s.banks b).row f g (bank_in s b h) (λ e. let z : ◌≡◌ {A = ℕ} 0 1 = cc in absurd (omega arith)) same
 beat_taken s p (Activate m b r) u f g h k same = burst_taken s p u f g h k same
-beat_taken s p (Precharge both b) u f g h k same = burst_taken s p u f g h k same
+beat_taken s p (Precharge w) u f g h k same = burst_taken s p u f g h k same
 beat_taken s p Refresh u f g h k same = burst_taken s p u f g h k same
 beat_taken s p (LoadMode a) u f g h k same = burst_taken s p u f g h k same
 beat_taken s p (LoadSpecial a) u f g h k same = burst_taken s p u f g h k same

@@ -15,9 +15,6 @@ pub record Ran (m₀ n₀ m n : Meaning) (ps qs : List Pins) (same : Bool) : Typ
   pub holds : T same → outs m qs ≡ outs n qs → outs m₀ ps ≡ outs n₀ ps
   pub tells : outs m₀ ps ≡ outs n₀ ps → T same × (outs m qs ≡ outs n qs)
 
-pub ran_none : (m n : Meaning) (ps : List Pins) → Ran m n m n ps ps true
-ran_none m n ps = record { first = refl; second = refl; holds = λ _ e. e; tells = λ e. (tt, e) }
-
 parts : (a b : Bool) → T (a && b) → T a × T b
 parts true b t = (tt, t)
 parts false b t = absurd t

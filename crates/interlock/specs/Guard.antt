@@ -2,9 +2,9 @@
 use Rattle.std.specs.Prelude.{◌≡◌, ℕ, true, None, Option}
 use Rattle.rules.specs.declared.pins.Pins.{Pins}
 use Rattle.rules.specs.declared.fault.Fault.{Fault}
-use Rattle.rules.specs.State.{State, is_some}
+use Rattle.rules.specs.State.{State}
+use Rattle.std.specs.Option.{is_some}
 use Rattle.rules.specs.Meaning.{Meaning, step, out}
-use Rattle.control.specs.View.{state_of}
 use Rattle.interlock.specs.declared.layer.Interlock.{Interlock}
 
 -- the command state with another fault
@@ -35,11 +35,11 @@ pub record Guards (below : Meaning) (own : State) : Type 0 where
 
 -- the meaning of an interlock: that of the device below, with the fault that the interlock found
 abbrev pub guarded : {X : Type 0} → (X → Meaning) → Interlock X → Meaning
-guarded meaning d = with_fault (meaning d.below) (state_of d.control).fault
+guarded meaning d = with_fault (meaning d.below) d.control.fault
 
 -- the states that switch-on and clocks can leave, by those of the device below
 abbrev pub Guarded : {X : Type 0} → (X → Type 0) → (X → Meaning) → Interlock X → Type 0
-Guarded reachable meaning d = reachable d.below × Guards (meaning d.below) (state_of d.control)
+Guarded reachable meaning d = reachable d.below × Guards (meaning d.below) d.control
 
 -- A clock that leaves the interlock without a fault is passed down, and answers what the device below answers. One that
 -- leaves it with a fault, whether it breaks a rule or comes later, leaves the device below as it is and drives no lane.

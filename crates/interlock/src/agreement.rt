@@ -1,16 +1,10 @@
-ghost use Rattle.std.specs.Prelude.{◌≡◌, ◌&&◌, T, ◌==◌};
+ghost use Rattle.std.specs.Prelude.{◌≡◌, T};
 ghost use Rattle.rules.specs.Meaning.{switch_on, run, outs};
 ghost use Rattle.interlock.specs.Alike.{Alike};
 ghost use Rattle.interlock.specs.Agree.{Matched};
 
 use device::Device;
 use rules::Pins;
-
-fn same_answer(x: (u8, u32), y: (u8, u32)) -> bool
-    ensures { result ≡ (x.0 == y.0 && x.1 == y.1) }
-{
-    x.0 == y.0 && x.1 == y.1
-}
 
 // Switches both on and gives both the same clocks; answers whether they answered the same at each.
 pub fn run_both<D: Device, E: Device>(d: &mut D, e: &mut E, pins: &[Pins]) -> bool
@@ -28,7 +22,7 @@ pub fn run_both<D: Device, E: Device>(d: &mut D, e: &mut E, pins: &[Pins]) -> bo
     for p in pins {
         let x = d.clock(*p);
         let y = e.clock(*p);
-        agreed &= same_answer(x, y);
+        agreed &= x == y;
     }
     agreed
 }

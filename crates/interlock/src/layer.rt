@@ -1,7 +1,6 @@
 ghost use Rattle.std.specs.Prelude.{◌≡◌, ℕ, ◌^◌, ◌<◌};
 ghost use Rattle.rules.specs.State.{switched_on};
 ghost use Rattle.rules.specs.Meaning.{step, out, switch_on};
-ghost use Rattle.control.specs.View.{state_of};
 ghost use Rattle.interlock.specs.Guard.{guarded, Guarded, Passes};
 
 use control::Control;
@@ -9,7 +8,8 @@ use device::Device;
 use rules::{Fault, Pins};
 use sheet::Sheet;
 
-// A layer over a device that judges each clock itself, and from its first fault on passes none down.
+// A layer over a device that judges each clock itself, and from its first fault on passes none down. That it agrees with
+// the device below is a predicate (Guarded) and no ghost field (tried): between the two moves of a clock it does not hold.
 #[derive(Drop)]
 pub struct Interlock<D: Device> {
     below: D,
@@ -20,7 +20,7 @@ impl<D: Device> Interlock<D> {
     // Switches the device below on.
     pub fn new(mut below: D) -> Interlock<D>
         ensures below { D.Device.meaning result.below ≡ switch_on (D.Device.meaning below) }
-        ensures control { state_of result.control ≡ switched_on (D.Device.meaning below).state.sheet }
+        ensures control { result.control ≡ switched_on (D.Device.meaning below).state.sheet }
         ensures reachable { Guarded D.Device.reachable D.Device.meaning result }
     {
         below.switch_on();

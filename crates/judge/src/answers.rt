@@ -5,7 +5,7 @@ use console::refusal_line;
 use std::alloc::{AllocError, Global};
 use verdict::judge;
 
-// The program's planes hold 32 rows.
+// The program's planes hold 32 rows. Arrays of fixed length: the judge writes into lent memory, as for a host in C.
 const PLANES: usize = 2048 * 32;
 
 // Room for the longest trace: no text of the length that is allowed has more clocks than 3,121.

@@ -4,9 +4,7 @@
 mod answers;
 
 use answers::answer;
-use anyhow::anyhow;
-use console::read_text;
-use std::env;
+use console::{exit_code, text_or_help};
 use std::io::Write;
 use std::process::ExitCode;
 
@@ -23,27 +21,14 @@ or writing fails.
 ";
 
 fn run(rt: &HostRuntime) -> anyhow::Result<()> {
-    let mut args = env::args(rt)?;
-    let _ = args.next();
-    if let Some(word) = args.next() {
-        if word.as_str() != "--help" {
-            return Err(anyhow!("the only argument is --help"));
-        }
-        rt.print(HELP)?;
-        return Ok(());
+    if let Some(text) = text_or_help(rt, HELP)? {
+        let page = answer(rt.alloc(), text.as_slice())?;
+        rt.stdout().write_all(page.as_slice())?;
     }
-    let text = read_text(rt)?;
-    let page = answer(rt.alloc(), text.as_slice())?;
-    rt.stdout().write_all(page.as_slice())?;
     Ok(())
 }
 
 fn main(rt: HostRuntime) -> ExitCode {
-    match run(&rt) {
-        Ok(()) => ExitCode::SUCCESS,
-        Err(error) => {
-            let _ = eprintln!(rt; "judge: {error}");
-            ExitCode::FAILURE
-        }
-    }
+    let outcome = run(&rt);
+    exit_code(&rt, "judge", outcome)
 }

@@ -1,7 +1,6 @@
 // Distances that are too short.
 ghost use Rattle.std.specs.Prelude.{◌≡◌};
 ghost use Rattle.rules.specs.Faults.{closing_early, too_close};
-ghost use Rattle.judging.specs.Pair.{pair};
 
 use crate::table::Table;
 use lines::is_short;
@@ -11,7 +10,7 @@ use sheet::Sheet;
 fn is_closing_early(sheet: &Sheet, t: u64, bank: Bank) -> bool
     ensures { result ≡ closing_early sheet.now t bank }
 {
-    bank.row.is_active()
+    bank.row.is_some()
         && (is_short(bank.opened, sheet.ras, t) || is_short(bank.written, sheet.wr, t))
 }
 
@@ -23,7 +22,7 @@ pub fn is_too_close(
     t: u64,
     command: Command,
 ) -> bool
-    ensures { result ≡ too_close sheet.now (pair table.now) blocked t command }
+    ensures { result ≡ too_close sheet.now table.now blocked t command }
 {
     match command {
         Command::Column { bank, .. } => is_short(table.get(bank).opened, sheet.rcd, t)
@@ -38,11 +37,11 @@ pub fn is_too_close(
                 || is_short(named.opened, sheet.rc, t)
                 || is_short(table.get(bank.other()).opened, sheet.rrd, t)
         }
-        Command::Precharge { both, bank } => {
+        Command::Precharge(target) => {
             let a = table.get(BankName::A);
             let b = table.get(BankName::B);
-            (both || bank.is(BankName::A)) && is_closing_early(sheet, t, a)
-                || (both || bank.is(BankName::B)) && is_closing_early(sheet, t, b)
+            target.includes(BankName::A) && is_closing_early(sheet, t, a)
+                || target.includes(BankName::B) && is_closing_early(sheet, t, b)
         }
         Command::Refresh => {
             let a = table.get(BankName::A);

@@ -1,24 +1,20 @@
 // Rows open too long, power-up, and commands too soon after a refresh or a register load.
 ghost use Rattle.std.specs.Prelude.{◌≡◌, ◌||◌};
 ghost use Rattle.rules.specs.Faults.{open_long, comes_next, forbidden, too_soon};
-ghost use Rattle.judging.specs.Pair.{pair};
 
 use crate::table::Table;
 use lines::{is_over, is_short};
-use rules::{Bank, BankName, Command, Past, Row, Steps};
+use rules::{Bank, BankName, Command, Past, Steps, Target};
 
 fn is_row_old(bank: Bank, most: u32, t: u64) -> bool
     ensures { result ≡ open_long bank most t }
 {
-    match bank.row {
-        Row::Idle => false,
-        Row::Active { row: _, masked: _ } => is_over(bank.opened, most, t),
-    }
+    bank.row.is_some() && is_over(bank.opened, most, t)
 }
 
 // A row is open over `most` clocks.
 pub fn is_open_long(table: &Table, most: u32, t: u64) -> bool
-    ensures { result ≡ open_long (pair table.now).a most t || open_long (pair table.now).b most t }
+    ensures { result ≡ open_long table.now.a most t || open_long table.now.b most t }
 {
     is_row_old(table.get(BankName::A), most, t) || is_row_old(table.get(BankName::B), most, t)
 }
@@ -27,12 +23,9 @@ fn may_come(closed: bool, command: Command) -> bool
     ensures { result ≡ comes_next closed command }
 {
     match command {
-        Command::Inhibit => true,
-        Command::Nop => true,
-        Command::Stop => true,
-        Command::Precharge { both, bank: _ } => both,
-        Command::Refresh => closed,
-        Command::LoadMode { code: _ } => closed,
+        Command::Inhibit | Command::Nop | Command::Stop => true,
+        Command::Precharge(target) => target == Target::Both,
+        Command::Refresh | Command::LoadMode { code: _ } => closed,
         _ => false,
     }
 }

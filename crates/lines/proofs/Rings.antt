@@ -1,11 +1,10 @@
 -- The ring of marks as a list, oldest first.
-use Rattle.std.proofs.Common.{◌≡◌, ℕ, suc, ◌+◌, ◌-◌, ◌<◌, ◌≤◌, List, [], ◌∷◌, ◌++◌, length, get_or, take, drop, set, replicate, Some, sym, refl, ap, ◌∙◌, subst, append_assoc, append-nil, add-one, arith, length-take, drop-cons, get_or-take, take-suc-set, drop-set-lt}
+use Rattle.std.proofs.Common.{◌≡◌, ℕ, suc, ◌+◌, ◌-◌, ◌<◌, ◌≤◌, List, [], ◌∷◌, ◌++◌, length, get_or, take, drop, set, replicate, sym, refl, ap, ◌∙◌, subst, append_assoc, append-nil, add-one, arith, length-take, drop-cons, get_or-take, take-suc-set, drop-set-lt}
 use lib.Seq.{take-set-lt}
 use Rattle.std.proofs.lemmas.List.{drop_all}
 use Rattle.lines.specs.declared.marks.Lap.{Lap}
 use Rattle.lines.specs.declared.marks.Lap.TheVariants.{Unset, First, Later}
 use Rattle.rules.specs.Delay.{passed}
-use Rattle.rules.specs.Faults.{oldest}
 use Rattle.lines.specs.Ring.{ring, turned}
 
 -- the part behind the head begins with the mark at the head
@@ -16,12 +15,6 @@ headed : (xs : List ℕ) (n h : ℕ) → h < n → n ≤ length xs → drop h (t
 headed xs n h lt le =
     let in' : h < length (take n xs) = simp length-take (omega arith) in
     drop-cons (take n xs) h 0 in' ∙ ap (λ (v : ℕ). v ∷ drop (suc h) (take n xs)) (get_or-take n xs h 0 lt)
-
-pub oldest_first : (xs : List ℕ) (n h b : ℕ) → h < n → Some b ≡ oldest (ring (First b) xs n h)
-oldest_first xs n h b lt = sym (ap (λ r. oldest (r ++ take h xs)) (some_left n h b lt))
-
-pub oldest_later : (xs : List ℕ) (n h : ℕ) → h < n → n ≤ length xs → Some (get_or xs h 0) ≡ oldest (ring Later xs n h)
-oldest_later xs n h lt le = sym (ap (λ r. oldest (r ++ take h xs)) (headed xs n h lt le))
 
 slid : {r : List ℕ} {x : ℕ} {rs : List ℕ} (ys : List ℕ) (t : ℕ) → r ≡ x ∷ rs → passed (r ++ ys) t ≡ rs ++ (ys ++ t ∷ [])
 slid {x = x} {rs = rs} ys t e = ap (λ r. passed (r ++ ys) t) e ∙ append_assoc rs ys (t ∷ [])

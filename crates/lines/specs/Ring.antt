@@ -1,7 +1,7 @@
 use Rattle.std.specs.Prelude.{ℕ, ◌-◌, List, [], ◌++◌, take, drop, replicate}
 use Rattle.lines.specs.declared.marks.Lap.{Lap}
 use Rattle.lines.specs.declared.marks.Lap.TheVariants.{Unset, First, Later}
-use Rattle.lines.specs.declared.marks.Marks.{Marks}
+use Rattle.lines.specs.declared.marks.Marks.TheInside.{Inside}
 
 abbrev pub ring : Lap → List ℕ → ℕ → ℕ → List ℕ
 ring Unset xs n h = []
@@ -15,5 +15,5 @@ turned (First b) = Later
 turned Later = Later
 
 -- the marks, oldest first
-abbrev pub marks : Marks → List ℕ
+abbrev pub marks : Inside → List ℕ
 marks m = ring m.lap m.items m.n m.head

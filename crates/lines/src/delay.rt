@@ -1,9 +1,10 @@
 // A delay line for elements of every kind.
 ghost use Rattle.std.specs.Prelude.{◌≡◌, replicate};
 ghost use Rattle.rules.specs.Delay.{leaving, passed, any_in};
-ghost use Rattle.lines.specs.Line.{line, clocks};
+ghost use Rattle.lines.specs.Line.{clocks};
 
 use sheet::Sheet;
+use std::marker::Model;
 
 // How many clocks a line is long.
 #[derive(Clone, Copy)]
@@ -14,7 +15,7 @@ pub enum Depth {
 }
 
 impl Depth {
-    // The sheet's read latency.
+    // The sheet's read latency. A name and no From, which would not say which of the sheet's numbers it takes.
     pub fn of_latency(sheet: &Sheet) -> Depth
         ensures { clocks result ≡ sheet.now.cl }
     {
@@ -26,8 +27,8 @@ impl Depth {
     }
 }
 
-// `first` leaves next; what lies past the depth is not looked at.
-#[derive(Clone, Copy)]
+// `first` leaves next; what lies past the depth is not looked at. Three fields, since a device takes no memory.
+#[derive(Clone, Drop)]
 pub struct Delay<T> {
     depth: Depth,
     first: T,
@@ -35,9 +36,20 @@ pub struct Delay<T> {
     third: T,
 }
 
+// Clauses see the elements, oldest first.
+impl<T> Model for Delay<T> {
+    ghost use Rattle.std.specs.Prelude.{List};
+
+    ghost Value = { List T };
+
+    ghost use Rattle.lines.specs.Line.{line};
+
+    ghost view = { line };
+}
+
 impl<T: Copy> Delay<T> {
     pub fn new(depth: Depth, empty: T) -> Delay<T>
-        ensures { line result ≡ replicate (clocks depth) empty }
+        ensures { result ≡ replicate (clocks depth) empty }
     {
         Delay {
             depth,
@@ -49,7 +61,7 @@ impl<T: Copy> Delay<T> {
 
     // What leaves at this clock.
     pub fn front(&self) -> T
-        ensures { (d : T) → result ≡ leaving d (line self.now) }
+        ensures { (d : T) → result ≡ leaving d self.now }
     {
         let Delay { first, .. } = *self;
         first
@@ -57,7 +69,7 @@ impl<T: Copy> Delay<T> {
 
     // A clock: the front leaves and x enters.
     pub fn push(&mut self, x: T)
-        ensures { line self.new ≡ passed (line self.old) x }
+        ensures { self.new ≡ passed self.old x }
     {
         match self.depth {
             Depth::One => self.first = x,
@@ -77,7 +89,7 @@ impl<T: Copy> Delay<T> {
 impl Delay<bool> {
     // Whether any element is true.
     pub fn any(&self) -> bool
-        ensures { result ≡ any_in (line self.now) }
+        ensures { result ≡ any_in self.now }
     {
         match self.depth {
             Depth::One => self.first,

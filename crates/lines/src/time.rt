@@ -6,18 +6,12 @@ ghost use Rattle.rules.specs.State.{short, over};
 pub fn is_short(since: Option<u64>, least: u32, t: u64) -> bool
     ensures { result ≡ short since least t }
 {
-    match since {
-        None => false,
-        Some(u) => t < u || t - u < u64::from(least),
-    }
+    since.is_some_and(|u| t < u || t - u < u64::from(least))
 }
 
 // Over `most` clocks have passed.
 pub fn is_over(since: Option<u64>, most: u32, t: u64) -> bool
     ensures { result ≡ over since most t }
 {
-    match since {
-        None => false,
-        Some(u) => u < t && t - u > u64::from(most),
-    }
+    since.is_some_and(|u| u < t && t - u > u64::from(most))
 }

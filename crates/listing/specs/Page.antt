@@ -4,7 +4,9 @@ use Rattle.rules.specs.declared.pins.Pins.{Pins}
 use Rattle.rules.specs.Pins.{command}
 use Rattle.trace.specs.Answer.{Reply}
 use Rattle.trace.specs.Text.{trace_of}
-use Rattle.listing.specs.Words.{hex, command_text}
+use Rattle.trace.specs.Digits.{hex}
+use Rattle.console.specs.Refused.{refusal_text}
+use Rattle.listing.specs.Words.{command_text}
 
 -- the names of the sheet's fields
 unfoldable pub names : List (List ℕ)
@@ -31,14 +33,6 @@ row_text cl n p = clock_text n (command_text cl (command p)) (hex 1 p.dqm) (hex 
 abbrev pub rows_text : ℕ → ℕ → List Pins → List ℕ
 rows_text cl n [] = []
 rows_text cl n (p ∷ ps) = row_text cl n p ++ rows_text cl (n + 1) ps
-
--- each number with a tab before it, and the LF
-abbrev pub values_text : List ℕ → List ℕ
-values_text [] = 10 ∷ []
-values_text (x ∷ xs) = 9 ∷ (decimal x ++ values_text xs)
-
-abbrev pub refusal_text : ℕ × List ℕ → List ℕ
-refusal_text a = codes "refused" ++ values_text (a.0 ∷ a.1)
 
 abbrev pub page_text : Reply (List ℕ × List Pins) → List ℕ
 page_text (Ok t) = heading_text names t.0 ++ rows_text (slice_index t.0 0) 1 t.1

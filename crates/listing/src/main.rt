@@ -4,12 +4,10 @@
 mod page;
 mod words;
 
-use anyhow::anyhow;
+use console::{exit_code, text_or_help};
 use page::listing;
-use std::io::{Read, Write};
+use std::io::Write;
 use std::process::ExitCode;
-use std::{env, io};
-use trace::LIMIT;
 
 const HELP: &str = "listing: reads a pin trace on standard input and lists it on standard output.
 
@@ -19,35 +17,15 @@ that is no trace only one line is written: refused, a number, and any place or l
 Fields are parted by tabs.
 ";
 
-// The input, as far as it matters: a text over the limit is refused, whatever else it holds.
-fn read_input(rt: &HostRuntime) -> io::Result<Vec<u8>> {
-    let mut text = Vec::new(rt.alloc());
-    rt.stdin().take(LIMIT as u64 + 1).read_to_end(&mut text)?;
-    Ok(text)
-}
-
 fn run(rt: &HostRuntime) -> anyhow::Result<()> {
-    let mut args = env::args(rt)?;
-    let _ = args.next();
-    if let Some(word) = args.next() {
-        if word.as_str() != "--help" {
-            return Err(anyhow!("the only argument is --help"));
-        }
-        rt.print(HELP)?;
-        return Ok(());
+    if let Some(text) = text_or_help(rt, HELP)? {
+        let page = listing(rt.alloc(), text.as_slice())?;
+        rt.stdout().write_all(page.as_bytes())?;
     }
-    let text = read_input(rt)?;
-    let page = listing(rt.alloc(), text.as_slice())?;
-    rt.stdout().write_all(page.as_bytes())?;
     Ok(())
 }
 
 fn main(rt: HostRuntime) -> ExitCode {
-    match run(&rt) {
-        Ok(()) => ExitCode::SUCCESS,
-        Err(error) => {
-            let _ = eprintln!(rt; "listing: {error}");
-            ExitCode::FAILURE
-        }
-    }
+    let outcome = run(&rt);
+    exit_code(&rt, "listing", outcome)
 }

@@ -1,44 +1,11 @@
-ghost use Rattle.std.specs.Prelude.{◌≡◌, ◌%◌, ◌<◌, true, ◌++◌, IfOk, string_bytes, OnOk};
-ghost use Rattle.std.specs.Fmt.{digit_glyph};
-ghost use Rattle.rules.specs.Faults.{listed_mode};
-ghost use Rattle.rules.specs.State.{beats_in};
-ghost use Rattle.rules.specs.Step.{coded};
-ghost use Rattle.listing.specs.Words.{hex, access_text, bank_text, code_text, order_text, mode_text, special_text, command_text};
+// How commands and the codes in them are written. `Display` for the types of `rules` would stand in that crate, which knows
+// no text.
+ghost use Rattle.std.specs.Prelude.{◌≡◌};
+ghost use Rattle.listing.specs.Words.{access_text, bank_text, order_text, target_text};
 
-use rules::{Access, BankName, Command};
-use std::alloc::{AllocError, Global};
-
-fn hex_digit(digit: u8) -> char
-    requires { digit < 16 }
-    ensures value { result ≡ digit_glyph true digit }
-    ensures ascii { result < 128 }
-{
-    if digit < 10 {
-        char::from(b'0' + digit)
-    } else {
-        char::from(b'A' + (digit - 10))
-    }
-}
-
-fn push_hex(out: &mut String, digits: u8, value: u32) -> Result<(), AllocError>
-    ensures { OnOk result (string_bytes out.new ≡ string_bytes out.old ++ hex digits value) }
-{
-    if digits == 0 {
-        return Ok(());
-    }
-    push_hex(out, digits - 1, value / 16)?;
-    out.push(hex_digit((value % 16) as u8))?;
-    Ok(())
-}
-
-// A number in so many hexadecimal digits, its letters in capitals.
-pub fn hex_text(heap: Global, digits: u8, value: u32) -> Result<String, AllocError>
-    ensures { IfOk result (λ s. string_bytes s ≡ hex digits value) }
-{
-    let mut text = String::new(heap);
-    push_hex(&mut text, digits, value)?;
-    Ok(text)
-}
+use rules::{Access, BankName, Command, Mode, Register, Target};
+use std::fmt;
+use std::fmt::{Display, Formatter, Write};
 
 fn access_name(access: Access) -> &'static str
     ensures { result.now ≡ access_text access }
@@ -59,105 +26,143 @@ fn bank_name(bank: BankName) -> &'static str
     }
 }
 
-// The bare code of a register load.
-fn code_text(heap: Global, code: u16) -> Result<String, AllocError>
-    ensures { IfOk result (λ s. string_bytes s ≡ code_text code) }
+// The banks that PRE closes.
+fn target_name(target: Target) -> &'static str
+    ensures { result.now ≡ target_text target }
 {
-    let code = hex_text(heap, 3, u32::from(code))?;
-    format!(in heap; "code {code}")
-}
-
-// Whether LMR may bring a code to a part of the given latency.
-fn is_listed(latency: u32, code: u16) -> bool
-    ensures { result ≡ listed_mode latency code }
-{
-    code % 8 < 4 && u32::from(code / 16 % 8) == latency && code < 128
-}
-
-// The burst length that LMR sets.
-fn burst_length(code: u16) -> u8
-    ensures { result ≡ beats_in (coded (code % 8)) }
-{
-    match code % 8 {
-        0 => 1,
-        1 => 2,
-        2 => 4,
-        _ => 8,
+    match target {
+        Target::One(bank) => bank_name(bank),
+        Target::Both => "both",
     }
 }
 
-// The order of columns that LMR sets.
-fn order_name(code: u16) -> &'static str
-    ensures { result.now ≡ order_text code }
+// The order of columns in a burst.
+fn order_name(interleaved: bool) -> &'static str
+    ensures { result.now ≡ order_text interleaved }
 {
-    if code / 8 % 2 == 1 {
+    if interleaved {
         "interleaved"
     } else {
         "sequential"
     }
 }
 
+// The bare code of a register load.
+#[derive(Clone, Copy)]
+struct Code(u16);
+
+impl Display for Code {
+    ghost use Rattle.std.specs.Prelude.{Some};
+    ghost use Rattle.listing.specs.Words.{code_text};
+
+    ghost output = { λ c. Some (code_text c.0) };
+
+    fn fmt<W: Write>(&self, f: &mut Formatter<W>) -> fmt::Result {
+        let code = self.0 % 0x1000;
+        write!(f, "code {code:03X}")
+    }
+}
+
 // What LMR sets at a part of the given latency, or the code where it is not listed.
-fn mode_text(heap: Global, latency: u32, code: u16) -> Result<String, AllocError>
-    ensures { IfOk result (λ s. string_bytes s ≡ mode_text latency code) }
-{
-    if is_listed(latency, code) {
-        let length = burst_length(code);
-        let order = order_name(code);
-        format!(in heap; "length {length} {order} latency {latency}")
-    } else {
-        code_text(heap, code)
+#[derive(Clone, Copy)]
+struct ModeCode {
+    latency: u32,
+    code: u16,
+}
+
+impl Display for ModeCode {
+    ghost use Rattle.std.specs.Prelude.{Some};
+    ghost use Rattle.listing.specs.Words.{mode_text};
+
+    ghost output = { λ m. Some (mode_text m.latency m.code) };
+
+    fn fmt<W: Write>(&self, f: &mut Formatter<W>) -> fmt::Result {
+        if Mode::is_listed(self.code, self.latency) {
+            let mode = Mode::of_code(self.code);
+            let length = mode.length.beats();
+            let order = order_name(mode.interleaved);
+            let latency = self.latency;
+            write!(f, "length {length} {order} latency {latency}")
+        } else {
+            let code = Code(self.code);
+            write!(f, "{code}")
+        }
     }
 }
 
 // What LSMR loads, or the code where it is not listed.
-fn special_text(heap: Global, code: u16) -> Result<String, AllocError>
-    ensures { IfOk result (λ s. string_bytes s ≡ special_text code) }
-{
-    match code {
-        0x000 => String::from_str(heap, "none"),
-        0x020 => String::from_str(heap, "mask"),
-        0x040 => String::from_str(heap, "colour"),
-        _ => code_text(heap, code),
+#[derive(Clone, Copy)]
+struct Special(u16);
+
+impl Display for Special {
+    ghost use Rattle.std.specs.Prelude.{Some};
+    ghost use Rattle.listing.specs.Words.{special_text};
+
+    ghost output = { λ s. Some (special_text s.0) };
+
+    fn fmt<W: Write>(&self, f: &mut Formatter<W>) -> fmt::Result {
+        match Register::of_code(self.0) {
+            Some(Register::Mask) => f.write_str("mask"),
+            Some(Register::Colour) => f.write_str("colour"),
+            None if self.0 == 0 => f.write_str("none"),
+            None => {
+                let code = Code(self.0);
+                write!(f, "{code}")
+            }
+        }
     }
 }
 
 // A command's mnemonic and its operands, at a part of the given latency.
-pub fn command_text(heap: Global, latency: u32, command: Command) -> Result<String, AllocError>
-    ensures { IfOk result (λ s. string_bytes s ≡ command_text latency command) }
-{
-    match command {
-        Command::Inhibit => String::from_str(heap, "INHBT"),
-        Command::Nop => String::from_str(heap, "NOP"),
-        Command::Stop => String::from_str(heap, "BST"),
-        Command::Column {
-            access,
-            bank,
-            a8,
-            column,
-        } => {
-            let name = access_name(access);
-            let bank = bank_name(bank);
-            let high = if a8 { " A8" } else { "" };
-            format!(in heap; "{name} {bank} column {column}{high}")
-        }
-        Command::Activate { masked, bank, row } => {
-            let name = if masked { "ACTM" } else { "ACT" };
-            let bank = bank_name(bank);
-            format!(in heap; "{name} {bank} row {row}")
-        }
-        Command::Precharge { both, bank } => {
-            let banks = if both { "both" } else { bank_name(bank) };
-            format!(in heap; "PRE {banks}")
-        }
-        Command::Refresh => String::from_str(heap, "REF"),
-        Command::LoadMode { code } => {
-            let mode = mode_text(heap, latency, code)?;
-            format!(in heap; "LMR {mode}")
-        }
-        Command::LoadSpecial { code } => {
-            let register = special_text(heap, code)?;
-            format!(in heap; "LSMR {register}")
+#[derive(Clone, Copy)]
+pub struct Listed {
+    pub latency: u32,
+    pub command: Command,
+}
+
+impl Display for Listed {
+    ghost use Rattle.std.specs.Prelude.{Some};
+    ghost use Rattle.listing.specs.Words.{command_text};
+
+    ghost output = { λ l. Some (command_text l.latency l.command) };
+
+    fn fmt<W: Write>(&self, f: &mut Formatter<W>) -> fmt::Result {
+        match self.command {
+            Command::Inhibit => f.write_str("INHBT"),
+            Command::Nop => f.write_str("NOP"),
+            Command::Stop => f.write_str("BST"),
+            Command::Column {
+                access,
+                bank,
+                a8,
+                column,
+            } => {
+                let name = access_name(access);
+                let bank = bank_name(bank);
+                let high = if a8 { " A8" } else { "" };
+                write!(f, "{name} {bank} column {column}{high}")
+            }
+            Command::Activate { masked, bank, row } => {
+                let name = if masked { "ACTM" } else { "ACT" };
+                let bank = bank_name(bank);
+                write!(f, "{name} {bank} row {row}")
+            }
+            Command::Precharge(target) => {
+                let banks = target_name(target);
+                write!(f, "PRE {banks}")
+            }
+            Command::Refresh => f.write_str("REF"),
+            Command::LoadMode { code } => {
+                let mode = ModeCode {
+                    latency: self.latency,
+                    code,
+                };
+                write!(f, "LMR {mode}")
+            }
+            Command::LoadSpecial { code } => {
+                let register = Special(code);
+                write!(f, "LSMR {register}")
+            }
         }
     }
 }

@@ -8,6 +8,7 @@ use Rattle.rules.specs.declared.pins.BankName.{BankName}
 use Rattle.rules.specs.declared.pins.BankName.TheVariants.{A, B}
 use Rattle.rules.specs.declared.pins.Access.TheVariants.{Read, Write, Block}
 use Rattle.rules.specs.declared.pins.Command.{Command}
+use Rattle.rules.specs.declared.pins.Target.TheVariants.{One, Both}
 use Rattle.rules.specs.declared.pins.Command.TheVariants.{Inhibit, Nop, Stop, Column, Activate, Precharge, Refresh, LoadMode, LoadSpecial}
 use Rattle.rules.specs.Pins.{eighth}
 use Rattle.schedule.specs.Reading.{at_bank}
@@ -55,11 +56,9 @@ encodes (Column Block b a c) dq h w = record {
 }
 encodes (Activate false b r) dq h w = record { is_command = λ i. Activate false (bank_is b (r % 512) (omega arith) i) (row_same b r h i); low = refl; word = w }
 encodes (Activate true b r) dq h w = record { is_command = λ i. Activate true (bank_is b (r % 512) (omega arith) i) (row_same b r h i); low = refl; word = w }
-encodes (Precharge both b) dq h w = record {
-  is_command = λ i. Precharge (a8_is b both 0 (omega arith) i) (bank_is b (at_8 both + 0) (small both 0 (omega arith)) i);
-  low = refl;
-  word = w;
-}
+encodes (Precharge (One A)) dq h w = record { is_command = refl; low = refl; word = w }
+encodes (Precharge (One B)) dq h w = record { is_command = refl; low = refl; word = w }
+encodes (Precharge Both) dq h w = record { is_command = refl; low = refl; word = w }
 encodes Refresh dq h w = record { is_command = refl; low = refl; word = w }
 encodes (LoadMode a) dq h w = record { is_command = ap LoadMode {x = a % 1024 % 1024} {y = a} (omega arith); low = refl; word = w }
 encodes (LoadSpecial a) dq h w = record { is_command = ap LoadSpecial {x = a % 1024 % 1024} {y = a} (omega arith); low = refl; word = w }
@@ -73,7 +72,7 @@ data_is (Column Write b a c) dq = refl
 data_is (Column Block b a c) dq = refl
 data_is (Activate false b r) dq = refl
 data_is (Activate true b r) dq = refl
-data_is (Precharge both b) dq = refl
+data_is (Precharge w) dq = refl
 data_is Refresh dq = refl
 data_is (LoadMode a) dq = refl
 data_is (LoadSpecial a) dq = refl

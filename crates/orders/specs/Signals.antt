@@ -3,6 +3,8 @@ use Rattle.std.specs.Prelude.{ℕ, ◌+◌, ◌%◌, ◌^◌, ◌<◌, Bool, tru
 use Rattle.rules.specs.declared.pins.Pins.{Pins}
 use Rattle.rules.specs.declared.pins.Access.{Access}
 use Rattle.rules.specs.declared.pins.Access.TheVariants.{Read, Write, Block}
+use Rattle.rules.specs.declared.pins.Target.{Target}
+use Rattle.rules.specs.declared.pins.Target.TheVariants.{One, Both}
 use Rattle.rules.specs.declared.pins.Command.{Command}
 use Rattle.rules.specs.declared.pins.Command.TheVariants.{Inhibit, Nop, Stop, Column, Activate, Precharge, Refresh, LoadMode, LoadSpecial}
 use Rattle.rules.specs.Cases.{L, H, line}
@@ -13,6 +15,11 @@ use Rattle.schedule.specs.Reading.{at_bank}
 abbrev pub at_8 : Bool → ℕ
 at_8 true = 256
 at_8 false = 0
+
+-- A8 for both banks, else A9 for one
+abbrev pub at_target : Target → ℕ
+at_target (One b) = at_bank b 0
+at_target Both = 256
 
 abbrev pub column_pins : Access → ℕ → ℕ → Pins
 column_pins Read a dq = line L H L H L 0 a dq
@@ -26,7 +33,7 @@ pins_of Stop dq = line L H H L L 0 0 dq
 pins_of (Column k b a8 c) dq = column_pins k (at_bank b (at_8 a8 + c)) dq
 pins_of (Activate false b r) dq = line L L H H L 0 (at_bank b (r % 512)) dq
 pins_of (Activate true b r) dq = line L L H H H 0 (at_bank b (r % 512)) dq
-pins_of (Precharge both b) dq = line L L H L L 0 (at_bank b (at_8 both + 0)) dq
+pins_of (Precharge w) dq = line L L H L L 0 (at_target w) dq
 pins_of Refresh dq = line L L L H L 0 0 dq
 pins_of (LoadMode a) dq = line L L L L L 0 (a % 1024) dq
 pins_of (LoadSpecial a) dq = line L L L L H 0 (a % 1024) dq
@@ -38,7 +45,7 @@ Encodable Nop = Unit {0}
 Encodable Stop = Unit {0}
 Encodable (Column k b a8 c) = c < 256
 Encodable (Activate m b r) = r < 512
-Encodable (Precharge both b) = Unit {0}
+Encodable (Precharge w) = Unit {0}
 Encodable Refresh = Unit {0}
 Encodable (LoadMode a) = a < 1024
 Encodable (LoadSpecial a) = a < 1024

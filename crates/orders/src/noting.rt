@@ -1,9 +1,9 @@
 ghost use Rattle.std.specs.Prelude.{◌≡◌, ℕ, ◌<◌, ◌^◌};
-ghost use Rattle.rules.specs.Beat.{closes};
+ghost use Rattle.rules.specs.Step.{code_of};
 ghost use Rattle.schedule.specs.Ledger.{period};
 ghost use Rattle.schedule.specs.After.{after, is_load, is_block, next_register, next_track};
 
-use rules::{Access, BankName, Command};
+use rules::{Access, BankName, Command, Register};
 use schedule::{Ledger, Track};
 use sheet::Sheet;
 
@@ -11,50 +11,40 @@ use sheet::Sheet;
 fn is_load(command: Command) -> bool
     ensures { result ≡ is_load command }
 {
-    match command {
-        Command::LoadMode { code: _ } => true,
-        Command::LoadSpecial { code: _ } => true,
-        _ => false,
-    }
+    matches!(
+        command,
+        Command::LoadMode { .. } | Command::LoadSpecial { .. }
+    )
 }
 
 // BW.
 fn is_block(command: Command) -> bool
     ensures { result ≡ is_block command }
 {
-    match command {
+    matches!(
+        command,
         Command::Column {
             access: Access::Block,
-            bank: _,
-            a8: _,
-            column: _,
-        } => true,
-        _ => false,
-    }
+            ..
+        }
+    )
 }
 
-// A register that an LSMR of the given code loads.
-fn next_register(code: u16, dq: u32, held: u32, command: Command) -> u32
-    ensures { result ≡ next_register code dq held command }
+// What a register holds after a command that came with dq on the data pins.
+fn next_register(register: Register, dq: u32, held: u32, command: Command) -> u32
+    ensures { result ≡ next_register (code_of register) dq held command }
 {
     match command {
-        Command::LoadSpecial { code: loaded } if loaded == code => dq,
+        Command::LoadSpecial { code } if code == register.code() => dq,
         _ => held,
     }
-}
-
-// PRE names the bank.
-fn closes(both: bool, named: BankName, bank: BankName) -> bool
-    ensures { result ≡ closes both named bank }
-{
-    both || named.is(bank)
 }
 
 // From one refresh to the next.
 fn period(sheet: Sheet) -> u64
     ensures { result ≡ period sheet }
 {
-    ((sheet.ret - 1024) / sheet.n) as u64
+    u64::from((sheet.ret - 1024) / sheet.n)
 }
 
 // One bank under a command at clock t.
@@ -64,22 +54,11 @@ fn noted_track(t: u64, command: Command, bank: BankName, track: Track) -> Track
     let mut next = track;
     match command {
         Command::Column {
-            access: Access::Write,
+            access: Access::Write | Access::Block,
             bank: named,
-            a8: _,
-            column: _,
+            ..
         } => {
-            if named.is(bank) {
-                next.written = t;
-            }
-        }
-        Command::Column {
-            access: Access::Block,
-            bank: named,
-            a8: _,
-            column: _,
-        } => {
-            if named.is(bank) {
+            if named == bank {
                 next.written = t;
             }
         }
@@ -88,13 +67,13 @@ fn noted_track(t: u64, command: Command, bank: BankName, track: Track) -> Track
             bank: named,
             row,
         } => {
-            if named.is(bank) {
+            if named == bank {
                 next.row = Some(row);
                 next.opened = t;
             }
         }
-        Command::Precharge { both, bank: named } => {
-            if closes(both, named, bank) && track.row.is_some() {
+        Command::Precharge(target) => {
+            if target.includes(bank) && track.row.is_some() {
                 next.row = None;
                 next.closed = t;
             }
@@ -115,15 +94,15 @@ pub fn noted(ledger: Ledger, sheet: Sheet, command: Command, dq: u32) -> Ledger
     next.clock = t;
     if command.is_refresh() {
         next.due += period(sheet);
-        next.free = t + sheet.rc as u64;
+        next.free = t + u64::from(sheet.rc);
     } else if is_load(command) {
         next.free = t + 2;
     }
     if is_block(command) {
         next.block = t;
     }
-    next.mask = next_register(0x20, dq, ledger.mask, command);
-    next.colour = next_register(0x40, dq, ledger.colour, command);
+    next.mask = next_register(Register::Mask, dq, ledger.mask, command);
+    next.colour = next_register(Register::Colour, dq, ledger.colour, command);
     next.a = noted_track(t, command, BankName::A, ledger.a);
     next.b = noted_track(t, command, BankName::B, ledger.b);
     next

@@ -1,10 +1,10 @@
 ghost use Rattle.std.specs.Prelude.{◌≡◌, ◌+◌, ◌<◌};
-ghost use Rattle.orders.specs.Signals.{pins_of, column_pins, at_8, Encodes};
+ghost use Rattle.orders.specs.Signals.{pins_of, column_pins, at_8, at_target, Encodes};
 ghost use Rattle.rules.specs.Cases.{line as wires};
 ghost use Rattle.rules.specs.declared.pins.Level.TheVariants.{Low};
 ghost use Rattle.schedule.specs.Reading.{at_bank};
 
-use rules::{Access, BankName, Command, Level, Pins};
+use rules::{Access, BankName, Command, Level, Pins, Target};
 
 // A9 names the bank.
 fn at_bank(bank: BankName, rest: u16) -> u16
@@ -22,9 +22,19 @@ fn at_column(a8: bool, column: u8) -> u16
     ensures { result ≡ at_8 a8 + column }
 {
     if a8 {
-        256 + column as u16
+        256 + u16::from(column)
     } else {
-        column as u16
+        u16::from(column)
+    }
+}
+
+// A8 for both banks, else A9 for one.
+fn at_target(target: Target) -> u16
+    ensures { result ≡ at_target target }
+{
+    match target {
+        Target::One(bank) => at_bank(bank, 0),
+        Target::Both => 256,
     }
 }
 
@@ -84,14 +94,7 @@ pub fn pins_for(command: Command, dq: u32) -> Pins
             let dsf = if masked { high } else { low };
             selected(low, high, high, dsf, at_bank(bank, row % 512), dq)
         }
-        Command::Precharge { both, bank } => selected(
-            low,
-            high,
-            low,
-            low,
-            at_bank(bank, at_column(both, 0)),
-            dq,
-        ),
+        Command::Precharge(target) => selected(low, high, low, low, at_target(target), dq),
         Command::Refresh => selected(low, low, high, low, 0, dq),
         Command::LoadMode { code } => selected(low, low, low, low, code % 1024, dq),
         Command::LoadSpecial { code } => selected(low, low, low, high, code % 1024, dq),
@@ -99,8 +102,6 @@ pub fn pins_for(command: Command, dq: u32) -> Pins
 }
 
 // Each command is decoded from its pins again.
-pub fn commands_encoded() -> u8
+pub fn commands_encoded()
     ensures { Encodes }
-{
-    0
-}
+{}

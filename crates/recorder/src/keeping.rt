@@ -1,5 +1,5 @@
-ghost use Rattle.std.specs.Prelude.{◌≡◌, true, false, [], ◌∷◌, ◌++◌, IfSome, Some, None, if◌then◌else◌};
-ghost use Rattle.recorder.specs.Kept.{below_meaning, Kept, Led};
+ghost use Rattle.std.specs.Prelude.{◌≡◌, [], ◌∷◌, ◌++◌, IfSome, None};
+ghost use Rattle.recorder.specs.Kept.{below_meaning, below_reachable, Led, Extended};
 
 use crate::record::Recorder;
 use device::Device;
@@ -7,56 +7,68 @@ use rules::{Fault, Pins};
 use sheet::Sheet;
 use std::alloc::Global;
 
-// Whether one more clock found its place.
-fn keep(kept: &mut Vec<Pins>, pins: Pins) -> bool
-    ensures { result ≡ true → kept.new.items ≡ kept.old.items ++ (pins ∷ []) }
+// No clock so far.
+fn emptied(kept: Option<Vec<Pins>>, heap: Global) -> Vec<Pins>
+    ensures { result.items ≡ [] }
 {
-    kept.push(pins).is_ok()
+    match kept {
+        Some(mut kept) => {
+            kept.clear();
+            kept
+        }
+        None => Vec::new(heap),
+    }
+}
+
+// One more clock, if it finds its place.
+fn extended(kept: Option<Vec<Pins>>, pins: Pins) -> Option<Vec<Pins>>
+    ensures { Extended kept pins result }
+{
+    let mut kept = kept?;
+    kept.push(pins).ok()?;
+    Some(kept)
 }
 
 impl<D: Device> Recorder<D> {
     // Keeps nothing until the device is switched on.
     pub fn new(heap: Global, below: D) -> Recorder<D>
         ensures below { result.below ≡ below }
-        ensures kept { result.pins.items ≡ [] }
-        ensures idle { result.whole ≡ false }
+        ensures kept { result.pins ≡ None }
     {
         Recorder {
             below,
-            pins: Vec::new(heap),
-            whole: false,
+            heap,
+            pins: None,
         }
     }
 
     // The device below, and the pins of every clock since switch-on, if none was lost.
     pub fn into_parts(self) -> (D, Option<Vec<Pins>>)
-        requires { Kept D.Device.reachable D.Device.meaning self }
         ensures below { result.0 ≡ self.below }
-        ensures kept { result.1 ≡ (if self.whole then Some self.pins else None) }
+        ensures kept { result.1 ≡ self.pins }
         ensures led { IfSome result.1 (λ v. Led (D.Device.meaning self.below) v.items) }
     {
-        let Recorder { below, pins, whole } = self;
-        if whole {
-            (below, Some(pins))
-        } else {
-            (below, None)
-        }
+        let Recorder {
+            below,
+            heap: _,
+            pins,
+        } = self;
+        (below, pins)
     }
 }
 
 impl<D: Device> Device for Recorder<D> {
     ghost meaning = { below_meaning D.Device.meaning };
 
-    ghost reachable = { Kept D.Device.reachable D.Device.meaning };
+    ghost reachable = { below_reachable D.Device.reachable };
 
     fn switch_on(&mut self) {
         self.below.switch_on();
-        self.pins.clear();
-        self.whole = true;
+        self.pins = Some(emptied(self.pins.take(), self.heap));
     }
 
     fn clock(&mut self, pins: Pins) -> (u8, u32) {
-        self.whole &= keep(&mut self.pins, pins);
+        self.pins = extended(self.pins.take(), pins);
         self.below.clock(pins)
     }
 

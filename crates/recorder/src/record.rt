@@ -1,11 +1,24 @@
 use device::Device;
 use rules::Pins;
+use std::alloc::Global;
+use std::marker::Model;
 
 // A layer over a device that keeps the pins of every clock since switch-on.
 #[derive(Drop)]
 pub struct Recorder<D: Device> {
     pub(crate) below: D,
-    pub(crate) pins: Vec<Pins>,
-    // the device was switched on, and no clock since then was lost for want of memory
-    pub(crate) whole: bool,
+    pub(crate) heap: Global,
+    // none before the device is switched on, and once a clock was lost for want of memory
+    pub(crate) pins: Option<Vec<Pins>>,
+}
+
+// The pins that are kept lead to the device as it is.
+impl<D: Device> Model for Recorder<D> {
+    ghost use Rattle.recorder.specs.Kept.{Record, Kept};
+
+    ghost Value = { Record D };
+
+    ghost view = { λ r. record { below = r.below; pins = r.pins } };
+
+    ghost invariant = { λ r. Kept (D.Device.meaning r.below) r.pins };
 }

@@ -1,9 +1,9 @@
 -- Lists of clocks: joined, after a fault, counted, and up to the first fault.
-use Rattle.std.proofs.Common.{◌≡◌, ℕ, ◌+◌, true, List, [], ◌∷◌, ◌++◌, length, replicate, Some, None, Option, sym, refl, ap, ◌∙◌, add-zero, arith}
+use Rattle.std.proofs.Common.{◌≡◌, ◌+◌, true, List, [], ◌∷◌, ◌++◌, length, replicate, Some, None, Option, sym, refl, ap, ◌∙◌, add-zero, arith}
 use Rattle.rules.specs.declared.pins.Pins.{Pins}
 use Rattle.rules.specs.declared.fault.Fault.{Fault}
 use Rattle.rules.specs.Pins.{command}
-use Rattle.rules.specs.State.{is_some}
+use Rattle.std.specs.Option.{is_some}
 use Rattle.rules.specs.Faults.{found, next_clock}
 use Rattle.rules.specs.Meaning.{Meaning, step, out, run, outs}
 use Rattle.rules.specs.Laws.{Broken}
@@ -29,13 +29,13 @@ outs_held m (p ∷ ps) e =
     λ i. out_held m p e i ∷ more i
 
 apart : {X : Type 0} (x : X) → Some x ≡ None → ⊥
-apart x e = let z : ◌≡◌ {A = ℕ} 0 1 = cc in omega arith
+apart x e = cc
 
 same : {X : Type 0} (x y : X) → Some x ≡ Some y → x ≡ y
 same x y e = cc
 
 held_apart : {X : Type 0} (f : Option X) → is_some f ≡ true → f ≡ None → ⊥
-held_apart f e h = let z : ◌≡◌ {A = ℕ} 0 1 = cc in omega arith
+held_apart f e h = cc
 
 -- a run that ends without a fault began without one, and so does a clock, which then breaks no rule
 pub run_sound : (m : Meaning) (ps : List Pins) → (run m ps).state.fault ≡ None → m.state.fault ≡ None

@@ -5,7 +5,7 @@ use Rattle.rules.specs.declared.fault.Rule.{Rule}
 use Rattle.rules.specs.declared.fault.Fault.{Fault}
 use Rattle.rules.specs.Pins.{command}
 use Rattle.rules.specs.Delay.{passed}
-use Rattle.rules.specs.State.{is_some}
+use Rattle.std.specs.Option.{is_some}
 use Rattle.rules.specs.Faults.{found}
 use Rattle.rules.specs.Step.{moved, failed, step_by}
 use Rattle.rules.specs.Cells.{work_at, done, taken}

@@ -1,6 +1,8 @@
 -- Bursts, and the beat of a clock.
-use Rattle.std.specs.Prelude.{ℕ, ◌+◌, ◌-◌, ◌%◌, Bool, true, false, cond, ◌&&◌, ◌||◌, Some, None, Option, bit_xor, nat_lt}
+use Rattle.std.specs.Prelude.{ℕ, ◌+◌, ◌-◌, ◌%◌, Bool, true, false, cond, not, ◌&&◌, Some, None, Option, bit_xor, nat_lt}
 use Rattle.rules.specs.declared.pins.BankName.{BankName}
+use Rattle.rules.specs.declared.pins.Target.{Target}
+use Rattle.rules.specs.declared.pins.Target.TheVariants.{One, Both}
 use Rattle.rules.specs.declared.pins.Access.{Access}
 use Rattle.rules.specs.declared.pins.Access.TheVariants.{Read, Write, Block}
 use Rattle.rules.specs.declared.pins.Command.{Command}
@@ -8,7 +10,6 @@ use Rattle.rules.specs.declared.pins.Command.TheVariants.{Inhibit, Nop, Stop, Co
 use Rattle.rules.specs.declared.state.Burst.{Burst}
 use Rattle.rules.specs.declared.state.Mode.{Mode}
 use Rattle.rules.specs.declared.state.Beat.{Beat}
-use Rattle.rules.specs.declared.state.Beat.TheVariants.{Rest, At}
 use Rattle.rules.specs.Pins.{same}
 use Rattle.rules.specs.State.{beats_in}
 
@@ -18,8 +19,13 @@ abbrev pub column : Bool → ℕ → ℕ → ℕ → ℕ
 column interleaved l c i = (c - c % l) + cond interleaved (bit_xor (c % l) i) ((c + i) % l)
 
 -- a PRE closes the banks that it names
-abbrev pub closes : Bool → BankName → BankName → Bool
-closes both named b = both || same named b
+abbrev pub closes : Target → BankName → Bool
+closes (One named) b = same named b
+closes Both b = true
+
+abbrev pub is_both : Target → Bool
+is_both (One b) = false
+is_both Both = true
 
 -- RD and WR begin a burst; BW is no burst, but ends one
 abbrev pub begun : Mode → Access → BankName → ℕ → Option Burst
@@ -27,9 +33,9 @@ begun o Read b c = Some (record { access = Read; bank = b; from = c; next = 0; m
 begun o Write b c = Some (record { access = Write; bank = b; from = c; next = 0; mode = o })
 begun o Block b c = None
 
-abbrev pub unless_closed : Bool → BankName → Option Burst → Option Burst
-unless_closed both named None = None
-unless_closed both named (Some u) = cond (closes both named u.bank) None (Some u)
+abbrev pub unless_closed : Target → Option Burst → Option Burst
+unless_closed w None = None
+unless_closed w (Some u) = cond (closes w u.bank) None (Some u)
 
 -- the burst whose beat is done at this clock
 abbrev pub current : Mode → Option Burst → Command → Option Burst
@@ -38,7 +44,7 @@ current o u Nop = u
 current o u Stop = None
 current o u (Column k b h c) = begun o k b c
 current o u (Activate m b r) = u
-current o u (Precharge both b) = unless_closed both b u
+current o u (Precharge w) = unless_closed w u
 current o u Refresh = u
 current o u (LoadMode a) = u
 current o u (LoadSpecial a) = u
@@ -49,45 +55,47 @@ next_burst None = None
 next_burst (Some u) = cond (nat_lt (u.next + 1) (beats_in u.mode.length))
     (Some (record { access = u.access; bank = u.bank; from = u.from; next = u.next + 1; mode = u.mode })) None
 
-abbrev pub burst_beat : Option Burst → Beat
-burst_beat None = Rest
-burst_beat (Some u) = At u.access u.bank (column u.mode.interleaved (beats_in u.mode.length) u.from u.next)
+abbrev pub beat_at : Access → BankName → ℕ → Option Beat
+beat_at k b c = Some (record { access = k; bank = b; column = c })
+
+abbrev pub burst_beat : Option Burst → Option Beat
+burst_beat None = None
+burst_beat (Some u) = beat_at u.access u.bank (column u.mode.interleaved (beats_in u.mode.length) u.from u.next)
 
 -- a block write is done at its own clock
-abbrev pub beat_by : Command → Option Burst → Beat
+abbrev pub beat_by : Command → Option Burst → Option Beat
 beat_by Inhibit u = burst_beat u
 beat_by Nop u = burst_beat u
 beat_by Stop u = burst_beat u
 beat_by (Column Read b h c) u = burst_beat u
 beat_by (Column Write b h c) u = burst_beat u
-beat_by (Column Block b h c) u = At Block b c
+beat_by (Column Block b h c) u = beat_at Block b c
 beat_by (Activate m b r) u = burst_beat u
-beat_by (Precharge both b) u = burst_beat u
+beat_by (Precharge w) u = burst_beat u
 beat_by Refresh u = burst_beat u
 beat_by (LoadMode a) u = burst_beat u
 beat_by (LoadSpecial a) u = burst_beat u
 
 -- the beat of a clock
-abbrev pub beat_of : Mode → Option Burst → Command → Beat
+abbrev pub beat_of : Mode → Option Burst → Command → Option Beat
 beat_of o u c = beat_by c (current o u c)
 
+abbrev pub reads : Access → Bool
+reads Read = true
+reads Write = false
+reads Block = false
+
 -- it takes a cell
-abbrev pub reads_cell : Beat → Bool
-reads_cell Rest = false
-reads_cell (At Read b c) = true
-reads_cell (At Write b c) = false
-reads_cell (At Block b c) = false
+abbrev pub reads_cell : Option Beat → Bool
+reads_cell None = false
+reads_cell (Some x) = reads x.access
 
 -- it writes
-abbrev pub writes : Beat → Bool
-writes Rest = false
-writes (At Read b c) = false
-writes (At Write b c) = true
-writes (At Block b c) = true
+abbrev pub writes : Option Beat → Bool
+writes None = false
+writes (Some x) = not (reads x.access)
 
 -- it writes to bank b, with a low DQM bit
-abbrev pub wrote : BankName → ℕ → Beat → Bool
-wrote b dqm Rest = false
-wrote b dqm (At Read k c) = false
-wrote b dqm (At Write k c) = same k b && nat_lt dqm 15
-wrote b dqm (At Block k c) = same k b && nat_lt dqm 15
+abbrev pub wrote : BankName → ℕ → Option Beat → Bool
+wrote b dqm None = false
+wrote b dqm (Some x) = not (reads x.access) && (same x.bank b && nat_lt dqm 15)

@@ -1,15 +1,13 @@
 -- What a clock does to the cells, a word for each address.
-use Rattle.std.specs.Prelude.{ℕ, ◌+◌, ◌*◌, ◌/◌, ◌%◌, Bool, cond, ◌==◌, bit_and}
+use Rattle.std.specs.Prelude.{ℕ, ◌+◌, ◌*◌, ◌/◌, ◌%◌, Bool, cond, Some, None, Option, ◌==◌, bit_and}
 use Rattle.rules.specs.declared.pins.Pins.{Pins}
 use Rattle.rules.specs.declared.pins.BankName.{BankName}
 use Rattle.rules.specs.declared.pins.BankName.TheVariants.{A, B}
 use Rattle.rules.specs.declared.pins.Access.{Access}
 use Rattle.rules.specs.declared.pins.Access.TheVariants.{Read, Write, Block}
-use Rattle.rules.specs.declared.state.Row.{Row}
-use Rattle.rules.specs.declared.state.Row.TheVariants.{Idle, Active}
+use Rattle.rules.specs.declared.state.OpenRow.{OpenRow}
 use Rattle.rules.specs.declared.state.Registers.{Registers}
 use Rattle.rules.specs.declared.state.Beat.{Beat}
-use Rattle.rules.specs.declared.state.Beat.TheVariants.{Rest, At}
 use Rattle.rules.specs.declared.state.Work.{Work}
 use Rattle.rules.specs.declared.state.Work.TheVariants.{Nothing, Take, Store, Paint}
 use Rattle.rules.specs.Words.{low, wide, put, chosen}
@@ -30,15 +28,15 @@ abbrev pub reach : ℕ → Bool → ℕ → ℕ
 reach dqm masked mask = bit_and (wide (low dqm)) (cond masked mask 0xffffffff)
 
 -- a beat in a bank with the given row; no beat comes to an idle bank
-abbrev pub work_in : ℕ → Registers → Pins → Access → BankName → ℕ → Row → Work
-work_in rows o p k b c Idle = Nothing
-work_in rows o p Read b c (Active r m) = Take (place rows b r c)
-work_in rows o p Write b c (Active r m) = Store (place rows b r c) (reach (dqm_of p) m o.mask) p.dq
-work_in rows o p Block b c (Active r m) = Paint (place rows b r c) p.dq (reach (dqm_of p) m o.mask) o.colour
+abbrev pub work_in : ℕ → Registers → Pins → Access → BankName → ℕ → Option OpenRow → Work
+work_in rows o p k b c None = Nothing
+work_in rows o p Read b c (Some r) = Take (place rows b r.row c)
+work_in rows o p Write b c (Some r) = Store (place rows b r.row c) (reach (dqm_of p) r.masked o.mask) p.dq
+work_in rows o p Block b c (Some r) = Paint (place rows b r.row c) p.dq (reach (dqm_of p) r.masked o.mask) o.colour
 
-abbrev pub work_of : State → Pins → Beat → Work
-work_of s p Rest = Nothing
-work_of s p (At k b c) = work_in s.sheet.rows s.registers p k b c (at s.banks b).row
+abbrev pub work_of : State → Pins → Option Beat → Work
+work_of s p None = Nothing
+work_of s p (Some x) = work_in s.sheet.rows s.registers p x.access x.bank x.column (at s.banks x.bank).row
 
 -- what the clock does to the cells, where it is no fault
 abbrev pub work_at : State → Pins → Work

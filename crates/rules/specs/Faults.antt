@@ -6,8 +6,7 @@ use Rattle.rules.specs.declared.pins.Command.{Command}
 use Rattle.rules.specs.declared.pins.Command.TheVariants.{Inhibit, Nop, Stop, Column, Activate, Precharge, Refresh, LoadMode, LoadSpecial}
 use Rattle.rules.specs.declared.fault.Rule.{Rule}
 use Rattle.rules.specs.declared.fault.Rule.TheVariants.{CountEnd, Retention, RowTime, PowerUp, Recovery, Operand, Misplaced, Distance, Contention}
-use Rattle.rules.specs.declared.state.Row.{Row}
-use Rattle.rules.specs.declared.state.Row.TheVariants.{Idle, Active}
+use Rattle.rules.specs.declared.state.OpenRow.{OpenRow}
 use Rattle.rules.specs.declared.state.Bank.{Bank}
 use Rattle.rules.specs.declared.state.Beat.{Beat}
 use Rattle.rules.specs.declared.state.Steps.{Steps}
@@ -15,8 +14,9 @@ use Rattle.rules.specs.declared.state.Past.{Past}
 use Rattle.rules.specs.Words.{low}
 use Rattle.rules.specs.Pins.{quiet, other}
 use Rattle.rules.specs.Delay.{leaving, any_in}
-use Rattle.rules.specs.State.{State, Banks, Time, short, over, at, is_active, is_some, ready}
-use Rattle.rules.specs.Beat.{beat_of, writes, closes}
+use Rattle.rules.specs.State.{State, Banks, Time, short, over, at, is_active, ready}
+use Rattle.std.specs.Option.{is_some}
+use Rattle.rules.specs.Beat.{beat_of, writes, closes, is_both}
 
 -- the clock that is judged
 abbrev pub next_clock : State → ℕ
@@ -36,9 +36,9 @@ oldest [] = None
 oldest (u ∷ us) = Some u
 
 -- RowTime: the clock at which the open row was opened
-abbrev pub since : Row → Time → Time
-since Idle t = None
-since (Active r m) t = t
+abbrev pub since : Option OpenRow → Time → Time
+since None t = None
+since (Some r) t = t
 
 abbrev pub open_long : Bank → ℕ → ℕ → Bool
 open_long k d t = over (since k.row k.opened) d t
@@ -50,7 +50,7 @@ comes_next closed Nop = true
 comes_next closed Stop = true
 comes_next closed (Column k b h c) = false
 comes_next closed (Activate m b r) = false
-comes_next closed (Precharge both b) = both
+comes_next closed (Precharge w) = is_both w
 comes_next closed Refresh = closed
 comes_next closed (LoadMode a) = closed
 comes_next closed (LoadSpecial a) = false
@@ -76,7 +76,7 @@ malformed s Nop = false
 malformed s Stop = false
 malformed s (Column k b a8 c) = a8
 malformed s (Activate m b r) = nat_le s.rows r
-malformed s (Precharge both b) = false
+malformed s (Precharge w) = false
 malformed s Refresh = false
 malformed s (LoadMode a) = not (listed_mode s.cl a)
 malformed s (LoadSpecial a) = not (listed_special a)
@@ -95,7 +95,7 @@ out_of_place s busy Nop = false
 out_of_place s busy Stop = false
 out_of_place s busy (Column k b h c) = not (is_active (at s b).row)
 out_of_place s busy (Activate k b r) = is_active (at s b).row
-out_of_place s busy (Precharge both b) = false
+out_of_place s busy (Precharge w) = false
 out_of_place s busy Refresh = some_active s
 out_of_place s busy (LoadMode a) = some_active s
 out_of_place s busy (LoadSpecial a) = busy
@@ -113,9 +113,9 @@ too_close s k blocked t (Activate x b r) =
     short (at k b).closed s.rp t
     || (short (at k b).opened s.rc t
     || short (at k (other b)).opened s.rrd t)
-too_close s k blocked t (Precharge both b) =
-    (closes both b A && closing_early s t k.a)
-    || (closes both b B && closing_early s t k.b)
+too_close s k blocked t (Precharge w) =
+    (closes w A && closing_early s t k.a)
+    || (closes w B && closing_early s t k.b)
 too_close s k blocked t Refresh =
     (short k.a.closed s.rp t || short k.b.closed s.rp t)
     || (short k.a.opened s.rc t || short k.b.opened s.rc t)
@@ -123,7 +123,7 @@ too_close s k blocked t (LoadMode a) = short k.a.closed s.rp t || short k.b.clos
 too_close s k blocked t (LoadSpecial a) = short blocked s.bwc t
 
 -- Contention: a lane is driven now, or was at the clock before
-abbrev pub clash : Beat → ℕ → ℕ → Bool
+abbrev pub clash : Option Beat → ℕ → ℕ → Bool
 clash k lanes drove = writes k && (nat_lt 0 lanes || nat_lt 0 drove)
 
 abbrev pub first : {X : Type 0} → List (X × Bool) → Option X

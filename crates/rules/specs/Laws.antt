@@ -7,7 +7,8 @@ use Rattle.rules.specs.declared.state.Work.{Work}
 use Rattle.rules.specs.declared.state.Work.TheVariants.{Nothing, Take, Store, Paint}
 use Rattle.rules.specs.Words.{bit, wide, chosen}
 use Rattle.rules.specs.Pins.{command}
-use Rattle.rules.specs.State.{is_some, beats_in, ready}
+use Rattle.rules.specs.State.{beats_in, ready}
+use Rattle.std.specs.Option.{is_some}
 use Rattle.rules.specs.Beat.{column}
 use Rattle.rules.specs.Faults.{found}
 use Rattle.rules.specs.Cells.{work_at}

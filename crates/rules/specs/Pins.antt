@@ -5,6 +5,8 @@ use Rattle.rules.specs.declared.pins.Level.TheVariants.{Low, High}
 use Rattle.rules.specs.declared.pins.Pins.{Pins}
 use Rattle.rules.specs.declared.pins.BankName.{BankName}
 use Rattle.rules.specs.declared.pins.BankName.TheVariants.{A, B}
+use Rattle.rules.specs.declared.pins.Target.{Target}
+use Rattle.rules.specs.declared.pins.Target.TheVariants.{One, Both}
 use Rattle.rules.specs.declared.pins.Access.TheVariants.{Read, Write, Block}
 use Rattle.rules.specs.declared.pins.Command.{Command}
 use Rattle.rules.specs.declared.pins.Command.TheVariants.{Inhibit, Nop, Stop, Column, Activate, Precharge, Refresh, LoadMode, LoadSpecial}
@@ -21,6 +23,10 @@ named a = cond (a / 512 % 2 == 1) B A
 abbrev pub eighth : ℕ → Bool
 eighth a = a / 256 % 2 == 1
 
+-- A8 names both banks, else A9 names one
+abbrev pub target : ℕ → Target
+target a = cond (eighth a) Both (One (named a))
+
 -- CS, RAS, CAS, WE, DSF and the address
 abbrev pub decoded : Level → Level → Level → Level → Level → ℕ → Command
 decoded High ras cas we dsf a = Inhibit
@@ -31,7 +37,7 @@ decoded Low High Low Low Low a = Column Write (named a) (eighth a) (a % 256)
 decoded Low High Low Low High a = Column Block (named a) (eighth a) (a % 256)
 decoded Low Low High High Low a = Activate false (named a) (a % 512)
 decoded Low Low High High High a = Activate true (named a) (a % 512)
-decoded Low Low High Low dsf a = Precharge (eighth a) (named a)
+decoded Low Low High Low dsf a = Precharge (target a)
 decoded Low Low Low High dsf a = Refresh
 decoded Low Low Low Low Low a = LoadMode a
 decoded Low Low Low Low High a = LoadSpecial a
@@ -46,7 +52,7 @@ quiet Nop = true
 quiet Stop = true
 quiet (Column k b h c) = false
 quiet (Activate m b r) = false
-quiet (Precharge both b) = false
+quiet (Precharge w) = false
 quiet Refresh = false
 quiet (LoadMode a) = false
 quiet (LoadSpecial a) = false

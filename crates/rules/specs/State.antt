@@ -1,11 +1,11 @@
 -- The command state of a device between two clocks: all but its cells and the words on their way out.
-use Rattle.std.specs.Prelude.{ℕ, ◌+◌, Bool, true, false, ◌&&◌, List, [], ◌∷◌, replicate, Some, None, Option, nat_le, nat_lt}
+use Rattle.std.specs.Prelude.{ℕ, ◌+◌, Bool, false, ◌&&◌, List, [], ◌∷◌, replicate, Some, None, Option, nat_le, nat_lt}
+use Rattle.std.specs.Option.{is_some}
 use Rattle.sheet.specs.declared.sheet.Sheet.{Sheet}
 use Rattle.rules.specs.declared.pins.BankName.{BankName}
 use Rattle.rules.specs.declared.pins.BankName.TheVariants.{A, B}
 use Rattle.rules.specs.declared.fault.Fault.{Fault}
-use Rattle.rules.specs.declared.state.Row.{Row}
-use Rattle.rules.specs.declared.state.Row.TheVariants.{Idle, Active}
+use Rattle.rules.specs.declared.state.OpenRow.{OpenRow}
 use Rattle.rules.specs.declared.state.Bank.{Bank}
 use Rattle.rules.specs.declared.state.Length.{Length}
 use Rattle.rules.specs.declared.state.Length.TheVariants.{One, Two, Four, Eight}
@@ -56,13 +56,8 @@ abbrev pub at : Banks → BankName → Bank
 at s A = s.a
 at s B = s.b
 
-abbrev pub is_active : Row → Bool
-is_active Idle = false
-is_active (Active r m) = true
-
-abbrev pub is_some : {X : Type 0} → Option X → Bool
-is_some None = false
-is_some (Some x) = true
+abbrev pub is_active : Option OpenRow → Bool
+is_active r = is_some r
 
 -- how many beats a burst has
 abbrev pub beats_in : Length → ℕ
@@ -76,7 +71,7 @@ abbrev pub ready : Steps → Bool
 ready s = s.loaded && nat_le 2 s.refreshes
 
 abbrev pub fresh_bank : Bank
-fresh_bank = record { row = Idle; opened = None; closed = None; written = None }
+fresh_bank = record { row = None; opened = None; closed = None; written = None }
 
 abbrev pub switched_on : Sheet → State
 switched_on s = record {

@@ -1,7 +1,7 @@
 ghost use Rattle.std.specs.Prelude.{◌≡◌};
 ghost use Rattle.rules.specs.Pins.{command, named};
 
-use crate::pins::{Access, BankName, Command, Level, Pins};
+use crate::pins::{Access, BankName, Command, Level, Pins, Target};
 
 // A9 names the bank.
 fn bank_of(address: u16) -> BankName
@@ -54,7 +54,11 @@ pub fn decode(pins: Pins) -> Command
             bank,
             row: address % 512,
         },
-        (_, Level::Low, Level::High, Level::Low, _) => Command::Precharge { both: a8, bank },
+        (_, Level::Low, Level::High, Level::Low, _) => Command::Precharge(if a8 {
+            Target::Both
+        } else {
+            Target::One(bank)
+        }),
         (_, Level::Low, Level::Low, Level::High, _) => Command::Refresh,
         (_, Level::Low, Level::Low, Level::Low, Level::Low) => Command::LoadMode { code: address },
         (_, Level::Low, Level::Low, Level::Low, Level::High) => Command::LoadSpecial {

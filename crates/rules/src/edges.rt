@@ -1,8 +1,6 @@
 ghost use Rattle.rules.specs.Edge.{Edge};
 
 // The rules at their edges, and one whole trace.
-pub fn edges_stand() -> u8
+pub fn edges_stand()
     ensures { Edge }
-{
-    0
-}
+{}

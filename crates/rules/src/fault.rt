@@ -25,7 +25,7 @@ pub enum Rule {
 }
 
 impl Rule {
-    // The fault's number.
+    // The fault's number. By name and no `From`: a bare conversion would not say which number.
     pub fn number(self) -> u8
         ensures { result ≡ number_of self }
     {

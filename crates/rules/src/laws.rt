@@ -2,50 +2,36 @@
 ghost use Rattle.rules.specs.Laws.{RunsJoin, FaultStays, ClockCounts, FirstFault, CellsKept, MarksKept, BurstVisits};
 
 // Two lists of clocks, one after the other, are one list.
-pub fn runs_join() -> u8
+pub fn runs_join()
     ensures { RunsJoin }
-{
-    0
-}
+{}
 
 // After a fault no clock changes anything or drives a lane, until switch-on.
-pub fn fault_stays() -> u8
+pub fn fault_stays()
     ensures { FaultStays }
-{
-    0
-}
+{}
 
 // Each clock but one that is a fault is counted.
-pub fn clock_counts() -> u8
+pub fn clock_counts()
     ensures { ClockCounts }
-{
-    0
-}
+{}
 
 // A run has a fault exactly where a clock breaks a rule, and it is that of the first such clock.
-pub fn first_fault() -> u8
+pub fn first_fault()
     ensures { FirstFault }
-{
-    0
-}
+{}
 
 // A run changes no word and no bit but those that its write beats and block writes reach.
-pub fn cells_kept() -> u8
+pub fn cells_kept()
     ensures { CellsKept }
-{
-    0
-}
+{}
 
 // After power-up there are always n refresh marks, oldest first.
-pub fn marks_kept() -> u8
+pub fn marks_kept()
     ensures { MarksKept }
-{
-    0
-}
+{}
 
 // A burst visits each column of its aligned block once.
-pub fn burst_visits() -> u8
+pub fn burst_visits()
     ensures { BurstVisits }
-{
-    0
-}
+{}

@@ -16,5 +16,5 @@ pub use fault::{Fault, Rule};
 pub use laws::{
     burst_visits, cells_kept, clock_counts, fault_stays, first_fault, marks_kept, runs_join,
 };
-pub use pins::{Access, BankName, Command, Level, Pins};
-pub use state::{Bank, Beat, Burst, Length, Mode, Past, Registers, Row, Steps, Work};
+pub use pins::{Access, BankName, Command, Level, Pins, Target};
+pub use state::{Bank, Beat, Burst, Length, Mode, OpenRow, Past, Register, Registers, Steps, Work};

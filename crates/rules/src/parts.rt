@@ -1,24 +1,15 @@
 // How the plain parts of a device's state are asked, and what a clock that is no fault makes of them.
-ghost use Rattle.std.specs.Prelude.{◌≡◌};
-ghost use Rattle.rules.specs.Pins.{same, other, quiet};
-ghost use Rattle.rules.specs.State.{beats_in, is_active, ready};
-ghost use Rattle.rules.specs.Beat.{reads_cell, writes, wrote};
-ghost use Rattle.rules.specs.Step.{coded, is_refresh, next_registers, next_steps, next_past};
+ghost use Rattle.std.specs.Prelude.{◌≡◌, Some};
+ghost use Rattle.rules.specs.Pins.{other, quiet};
+ghost use Rattle.rules.specs.State.{beats_in, ready};
+ghost use Rattle.rules.specs.Beat.{closes, reads, reads_cell, writes, wrote};
+ghost use Rattle.rules.specs.Faults.{listed_mode};
+ghost use Rattle.rules.specs.Step.{coded, mode_of, code_of, register_of, is_refresh, next_registers, next_steps, next_past};
 
-use crate::pins::{Access, BankName, Command};
-use crate::state::{Beat, Length, Mode, Past, Registers, Row, Steps};
+use crate::pins::{Access, BankName, Command, Target};
+use crate::state::{Beat, Length, Mode, Past, Register, Registers, Steps};
 
 impl BankName {
-    pub fn is(self, name: BankName) -> bool
-        ensures { result ≡ same self name }
-    {
-        match (self, name) {
-            (BankName::A, BankName::A) => true,
-            (BankName::B, BankName::B) => true,
-            _ => false,
-        }
-    }
-
     pub fn other(self) -> BankName
         ensures { result ≡ other self }
     {
@@ -29,13 +20,14 @@ impl BankName {
     }
 }
 
-impl Row {
-    pub fn is_active(self) -> bool
-        ensures { result ≡ is_active self }
+impl Target {
+    // A PRE of these banks closes this one.
+    pub fn includes(self, name: BankName) -> bool
+        ensures { result ≡ closes self name }
     {
         match self {
-            Row::Idle => false,
-            Row::Active { row: _, masked: _ } => true,
+            Target::One(named) => named == name,
+            Target::Both => true,
         }
     }
 }
@@ -44,70 +36,44 @@ impl Command {
     pub fn is_quiet(self) -> bool
         ensures { result ≡ quiet self }
     {
-        match self {
-            Command::Inhibit => true,
-            Command::Nop => true,
-            Command::Stop => true,
-            _ => false,
-        }
+        matches!(self, Command::Inhibit | Command::Nop | Command::Stop)
     }
 
     pub fn is_refresh(self) -> bool
         ensures { result ≡ is_refresh self }
     {
-        match self {
-            Command::Refresh => true,
-            _ => false,
-        }
+        matches!(self, Command::Refresh)
+    }
+}
+
+impl Access {
+    // It takes a cell.
+    fn reads(self) -> bool
+        ensures { result ≡ reads self }
+    {
+        matches!(self, Access::Read)
     }
 }
 
 impl Beat {
     // It takes a cell.
     pub fn reads(self) -> bool
-        ensures { result ≡ reads_cell self }
+        ensures { result ≡ reads_cell (Some self) }
     {
-        match self {
-            Beat::At {
-                access: Access::Read,
-                bank: _,
-                column: _,
-            } => true,
-            _ => false,
-        }
+        self.access.reads()
     }
 
     pub fn writes(self) -> bool
-        ensures { result ≡ writes self }
+        ensures { result ≡ writes (Some self) }
     {
-        match self {
-            Beat::Rest => false,
-            Beat::At {
-                access: Access::Read,
-                bank: _,
-                column: _,
-            } => false,
-            _ => true,
-        }
+        !self.reads()
     }
 
     // It writes to the bank, with a low DQM bit.
     pub fn writes_to(self, name: BankName, dqm: u8) -> bool
-        ensures { result ≡ wrote name dqm self }
+        ensures { result ≡ wrote name dqm (Some self) }
     {
-        match self {
-            Beat::Rest => false,
-            Beat::At {
-                access: Access::Read,
-                bank: _,
-                column: _,
-            } => false,
-            Beat::At {
-                access: _,
-                bank,
-                column: _,
-            } => bank.is(name) && dqm < 15,
-        }
+        self.writes() && self.bank == name && dqm < 15
     }
 }
 
@@ -123,6 +89,7 @@ impl Length {
         }
     }
 
+    // By name and no `From`: other codes mean eight too, so none can be turned back.
     fn of_code(code: u16) -> Length
         ensures { result ≡ coded code }
     {
@@ -135,31 +102,61 @@ impl Length {
     }
 }
 
+impl Mode {
+    // Whether LMR may bring the code to a part of latency cl.
+    pub fn is_listed(code: u16, cl: u32) -> bool
+        ensures { result ≡ listed_mode cl code }
+    {
+        code % 8 < 4 && u32::from(code / 16 % 8) == cl && code < 128
+    }
+
+    // The mode that LMR sets by a listed code. By name and no `From`, as `Length::of_code`.
+    pub fn of_code(code: u16) -> Mode
+        ensures { result ≡ mode_of code }
+    {
+        Mode {
+            length: Length::of_code(code % 8),
+            interleaved: code / 8 % 2 == 1,
+        }
+    }
+}
+
+impl Register {
+    // The code by which LSMR loads it.
+    pub fn code(self) -> u16
+        ensures { result ≡ code_of self }
+    {
+        match self {
+            Register::Mask => 0x20,
+            Register::Colour => 0x40,
+        }
+    }
+
+    // The register that LSMR loads by a code. An option and no `TryFrom`: code 0 loads none and is no error.
+    pub fn of_code(code: u16) -> Option<Register>
+        ensures { result ≡ register_of code }
+    {
+        match code {
+            0x20 => Some(Register::Mask),
+            0x40 => Some(Register::Colour),
+            _ => None,
+        }
+    }
+}
+
 impl Registers {
     pub fn after(self, command: Command, dq: u32) -> Registers
         ensures { result ≡ next_registers dq self command }
     {
         match command {
-            Command::LoadMode { code } => {
-                let mode = Mode {
-                    length: Length::of_code(code % 8),
-                    interleaved: code / 8 % 2 == 1,
-                };
-                Registers {
-                    mode,
-                    mask: self.mask,
-                    colour: self.colour,
-                }
-            }
-            Command::LoadSpecial { code: 0x20 } => Registers {
-                mode: self.mode,
-                mask: dq,
-                colour: self.colour,
+            Command::LoadMode { code } => Registers {
+                mode: Mode::of_code(code),
+                ..self
             },
-            Command::LoadSpecial { code: 0x40 } => Registers {
-                mode: self.mode,
-                mask: self.mask,
-                colour: dq,
+            Command::LoadSpecial { code } => match Register::of_code(code) {
+                Some(Register::Mask) => Registers { mask: dq, ..self },
+                Some(Register::Colour) => Registers { colour: dq, ..self },
+                None => self,
             },
             _ => self,
         }
@@ -178,27 +175,17 @@ impl Steps {
         ensures { result ≡ next_steps self command }
     {
         match command {
-            Command::Precharge { both, bank: _ } => Steps {
-                closed: self.closed || both,
-                loaded: self.loaded,
-                refreshes: self.refreshes,
+            Command::Precharge(target) => Steps {
+                closed: self.closed || target == Target::Both,
+                ..self
             },
-            Command::Refresh => {
-                let refreshes = if self.refreshes < 2 {
-                    self.refreshes + 1
-                } else {
-                    2
-                };
-                Steps {
-                    closed: self.closed,
-                    loaded: self.loaded,
-                    refreshes,
-                }
-            }
+            Command::Refresh => Steps {
+                refreshes: self.refreshes.saturating_add(1).min(2),
+                ..self
+            },
             Command::LoadMode { code: _ } => Steps {
-                closed: self.closed,
                 loaded: true,
-                refreshes: self.refreshes,
+                ..self
             },
             _ => self,
         }
@@ -214,24 +201,16 @@ impl Past {
                 access: Access::Block,
                 ..
             } => Past {
-                refreshed: self.refreshed,
-                loaded: self.loaded,
                 blocked: Some(t),
+                ..self
             },
             Command::Refresh => Past {
                 refreshed: Some(t),
-                loaded: self.loaded,
-                blocked: self.blocked,
+                ..self
             },
-            Command::LoadMode { code: _ } => Past {
-                refreshed: self.refreshed,
+            Command::LoadMode { code: _ } | Command::LoadSpecial { code: _ } => Past {
                 loaded: Some(t),
-                blocked: self.blocked,
-            },
-            Command::LoadSpecial { code: _ } => Past {
-                refreshed: self.refreshed,
-                loaded: Some(t),
-                blocked: self.blocked,
+                ..self
             },
             _ => self,
         }

@@ -19,10 +19,17 @@ pub struct Pins {
     pub dq: u32,
 }
 
-#[derive(Clone, Copy)]
+#[derive(Clone, Copy, PartialEq, Eq, Debug)]
 pub enum BankName {
     A,
     B,
+}
+
+// The banks that a PRE closes.
+#[derive(Clone, Copy, PartialEq, Eq, Debug)]
+pub enum Target {
+    One(BankName),
+    Both,
 }
 
 #[derive(Clone, Copy)]
@@ -56,17 +63,14 @@ pub enum Command {
         row: u16,
     },
     // PRE
-    Precharge {
-        both: bool,
-        bank: BankName,
-    },
+    Precharge(Target),
     // REF
     Refresh,
-    // LMR
+    // LMR; the code as it is brought, since any of 1,024 can come, and one that is not listed breaks a rule
     LoadMode {
         code: u16,
     },
-    // LSMR
+    // LSMR; its code as it is brought
     LoadSpecial {
         code: u16,
     },

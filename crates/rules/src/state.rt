@@ -1,17 +1,18 @@
 // What a device is at between two clocks, in parts.
 use crate::pins::{Access, BankName};
 
+// An open row, and whether ACTM opened it.
 #[derive(Clone, Copy)]
-pub enum Row {
-    Idle,
-    // an open row, and whether ACTM opened it
-    Active { row: u16, masked: bool },
+pub struct OpenRow {
+    pub row: u16,
+    pub masked: bool,
 }
 
 // Each time is the clock of the last event of its kind, if there was one.
 #[derive(Clone, Copy)]
 pub struct Bank {
-    pub row: Row,
+    // none where the bank is idle
+    pub row: Option<OpenRow>,
     pub opened: Option<u64>,
     pub closed: Option<u64>,
     // the last data written with a low DQM bit
@@ -30,6 +31,13 @@ pub enum Length {
 pub struct Mode {
     pub length: Length,
     pub interleaved: bool,
+}
+
+// What LSMR loads.
+#[derive(Clone, Copy, PartialEq, Eq, Debug)]
+pub enum Register {
+    Mask,
+    Colour,
 }
 
 #[derive(Clone, Copy)]
@@ -65,15 +73,12 @@ pub struct Past {
     pub blocked: Option<u64>,
 }
 
-// The access that is done at a clock, if one is.
+// The access that is done at a clock.
 #[derive(Clone, Copy)]
-pub enum Beat {
-    Rest,
-    At {
-        access: Access,
-        bank: BankName,
-        column: u8,
-    },
+pub struct Beat {
+    pub access: Access,
+    pub bank: BankName,
+    pub column: u8,
 }
 
 // What a clock does to the cells.

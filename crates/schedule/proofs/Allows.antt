@@ -1,5 +1,7 @@
 -- A command that fits the ledger breaks no rule.
 use Rattle.std.proofs.Common.{◌≡◌, ℕ, ◌+◌, ◌^◌, ◌≤◌, Bool, true, false, not, ◌&&◌, ◌||◌, ltb, List, Some, None, Option, refl, ap, ◌∙◌, arith, ne_eqb}
+use Rattle.std.proofs.lemmas.Bool.{or_from}
+use Rattle.std.proofs.Math.Bool.{and-false}
 use borrow.Author.Tests.{lt-leb}
 use Rattle.sheet.specs.declared.sheet.Sheet.{Sheet}
 use Rattle.rules.specs.declared.pins.BankName.{BankName}
@@ -8,7 +10,8 @@ use Rattle.rules.specs.declared.pins.Access.TheVariants.{Read, Write, Block}
 use Rattle.rules.specs.declared.pins.Command.{Command}
 use Rattle.rules.specs.declared.pins.Command.TheVariants.{Inhibit, Nop, Stop, Column, Activate, Precharge, Refresh, LoadMode, LoadSpecial}
 use Rattle.rules.specs.Pins.{quiet, other}
-use Rattle.rules.specs.State.{State, Time, short, at, is_active, is_some}
+use Rattle.rules.specs.State.{State, Time, short, at, is_active}
+use Rattle.std.specs.Option.{is_some}
 use Rattle.rules.specs.Beat.{beat_of}
 use Rattle.rules.specs.Faults.{lanes_now, too_soon, malformed, busy, out_of_place, too_close, clash, found}
 use Rattle.rules.specs.Meaning.{Meaning}
@@ -18,7 +21,7 @@ use Rattle.schedule.specs.declared.ledger.Track.{Track}
 use Rattle.schedule.specs.Line.{driven}
 use Rattle.schedule.specs.Ledger.{track, next, period, as_row, state_told, WasAt, WasBy, Dated, Steady, Timely}
 use Rattle.schedule.specs.Fit.{Reachable, Drivable, Spent, Fit}
-use Rattle.schedule.proofs.Times.{at_short, by_short, before_short, young_over, a_round, marks_young, and_false, and_when, or_both}
+use Rattle.schedule.proofs.Times.{at_short, by_short, before_short, young_over, a_round, marks_young, and_when}
 use Rattle.schedule.proofs.Lines.{driven_lanes}
 
 pub active_as : (x : Option ℕ) → is_active (as_row x) ≡ is_some x
@@ -28,7 +31,7 @@ active_as (Some r) = refl
 early : (s : Sheet) (t : ℕ) (x : Option ℕ) (h : Track) (o w : Time) → Spent s x h t → WasAt o h.opened → WasBy w h.written
     → (is_active (as_row x) && (short o s.ras t || short w s.wr t)) ≡ false
 early s t None h o w f p q = refl
-early s t (Some r) h o w f p q = or_both _ _ (at_short o _ _ t p f.0) (by_short w _ _ t q f.1)
+early s t (Some r) h o w f p q = or_from _ _ (at_short o _ _ t p f.0) (by_short w _ _ t q f.1)
 
 module _ (s : Sheet) (line : List (Option ℕ)) (m : Meaning) (d : Ledger) (k : Steady s line m d) where
   abbrev M : State
@@ -53,7 +56,7 @@ module _ (s : Sheet) (line : List (Option ℕ)) (m : Meaning) (d : Ledger) (k : 
 
   -- Recovery
   late : d.free ≤ next d → (short m.state.past.refreshed s.rc (next d) || short m.state.past.loaded 2 (next d)) ≡ false
-  late h = or_both _ _ (before_short m.state.past.refreshed _ _ _ k.refreshed h) (before_short m.state.past.loaded _ _ _ k.loaded h)
+  late h = or_from _ _ (before_short m.state.past.refreshed _ _ _ k.refreshed h) (before_short m.state.past.loaded _ _ _ k.loaded h)
 
   late_enough : (c : Command) → Fit s line d c → too_soon M.past s.rc (next d) c ≡ false
   late_enough Inhibit f = refl
@@ -63,7 +66,7 @@ module _ (s : Sheet) (line : List (Option ℕ)) (m : Meaning) (d : Ledger) (k : 
   late_enough (Column Write b h c) f = late f.0.free
   late_enough (Column Block b h c) f = late f.0.free
   late_enough (Activate x b r) f = late f.1.free
-  late_enough (Precharge both b) f = late f.free
+  late_enough (Precharge w) f = late f.free
   late_enough Refresh f = late f.free
   late_enough (LoadMode a) f = absurd f
   late_enough (LoadSpecial a) f = late f.free
@@ -77,7 +80,7 @@ module _ (s : Sheet) (line : List (Option ℕ)) (m : Meaning) (d : Ledger) (k : 
   well_formed (Column Write b h c) f = f.0.low
   well_formed (Column Block b h c) f = f.0.low
   well_formed (Activate x b r) f = lt-leb s.rows r f.1.inside
-  well_formed (Precharge both b) f = refl
+  well_formed (Precharge w) f = refl
   well_formed Refresh f = refl
   well_formed (LoadMode a) f = absurd f
   well_formed (LoadSpecial a) f = ap not f.is_listed
@@ -94,15 +97,15 @@ module _ (s : Sheet) (line : List (Option ℕ)) (m : Meaning) (d : Ledger) (k : 
   in_place (Column Write b h c) f = row_active b f.0.row_open
   in_place (Column Block b h c) f = row_active b f.0.row_open
   in_place (Activate x b r) f = ap is_active (row_is b ∙ ap as_row f.1.row_closed)
-  in_place (Precharge both b) f = refl
-  in_place Refresh f = or_both _ _ (ap (λ x. is_active (as_row x)) f.a_closed) (ap (λ x. is_active (as_row x)) f.b_closed)
+  in_place (Precharge w) f = refl
+  in_place Refresh f = or_from _ _ (ap (λ x. is_active (as_row x)) f.a_closed) (ap (λ x. is_active (as_row x)) f.b_closed)
   in_place (LoadMode a) f = absurd f
   in_place (LoadSpecial a) f = f.nothing_read
 
   -- Distance
   far_column : (b : BankName) (h : Bool) → Reachable s d b h
       → (short (at M.banks b).opened s.rcd (next d) || short m.state.past.blocked s.bwc (next d)) ≡ false
-  far_column b h f = or_both _ _ (open_far b _ f.rcd) (bwc_far f.bwc)
+  far_column b h f = or_from _ _ (open_far b _ f.rcd) (bwc_far f.bwc)
 
   far_enough : (c : Command) → Fit s line d c → too_close s M.banks M.past.blocked (next d) c ≡ false
   far_enough Inhibit f = refl
@@ -112,18 +115,18 @@ module _ (s : Sheet) (line : List (Option ℕ)) (m : Meaning) (d : Ledger) (k : 
   far_enough (Column Write b h c) f = far_column b h f.0
   far_enough (Column Block b h c) f = far_column b h f.0
   far_enough (Activate x b r) f =
-      or_both _ _ (closed_far b _ f.1.rp) (or_both _ _ (open_far b _ f.1.rc) (open_far (other b) _ f.1.rrd))
-  far_enough (Precharge both b) f = or_both _ _
+      or_from _ _ (closed_far b _ f.1.rp) (or_from _ _ (open_far b _ f.1.rc) (open_far (other b) _ f.1.rrd))
+  far_enough (Precharge w) f = or_from _ _
       (and_when _ _ (λ e. early s (next d) d.a.row d.a _ _ (f.spent_a e) (k.bank A).opened (k.bank A).written))
       (and_when _ _ (λ e. early s (next d) d.b.row d.b _ _ (f.spent_b e) (k.bank B).opened (k.bank B).written))
-  far_enough Refresh f = or_both _ _
-      (or_both _ _ (closed_far A _ f.a_rp) (closed_far B _ f.b_rp)) (or_both _ _ (open_far A _ f.a_rc) (open_far B _ f.b_rc))
+  far_enough Refresh f = or_from _ _
+      (or_from _ _ (closed_far A _ f.a_rp) (closed_far B _ f.b_rp)) (or_from _ _ (open_far A _ f.a_rc) (open_far B _ f.b_rc))
   far_enough (LoadMode a) f = absurd f
   far_enough (LoadSpecial a) f = bwc_far f.bwc
 
   -- Contention
   bus_free : Drivable line d → (ltb 0 (lanes_now M) || ltb 0 m.state.drove) ≡ false
-  bus_free f = or_both _ _ (ap (ltb 0) (driven_lanes line ∙ ap (λ x. (driven x).0) f.nothing_leaves)) (ap (ltb 0) (k.undriven f.bus))
+  bus_free f = or_from _ _ (ap (ltb 0) (driven_lanes line ∙ ap (λ x. (driven x).0) f.nothing_leaves)) (ap (ltb 0) (k.undriven f.bus))
 
   no_clash : (c : Command) → Fit s line d c → clash (beat_of M.registers.mode None c) (lanes_now M) m.state.drove ≡ false
   no_clash Inhibit f = refl
@@ -133,7 +136,7 @@ module _ (s : Sheet) (line : List (Option ℕ)) (m : Meaning) (d : Ledger) (k : 
   no_clash (Column Write b h c) f = bus_free f.1
   no_clash (Column Block b h c) f = bus_free f.1
   no_clash (Activate x b r) f = refl
-  no_clash (Precharge both b) f = refl
+  no_clash (Precharge w) f = refl
   no_clash Refresh f = refl
   no_clash (LoadMode a) f = refl
   no_clash (LoadSpecial a) f = refl
@@ -142,10 +145,10 @@ module _ (s : Sheet) (line : List (Option ℕ)) (m : Meaning) (d : Ledger) (k : 
   fine c t f = none_found M c (record {
     count_end = ne_eqb (next d) (2 ^ 62) (omega (arith, t.counts));
     retention = marks_young (period s) d.due s.ret (next d) m.state.marks k.paced (a_round s m.state.marks k.all_marks) t.fresh;
-    row_time = or_both _ _
+    row_time = or_from _ _
         (young_over d.a.row _ d.a.opened s.rasmax (next d) (k.bank A).opened t.young_a s.rasmax_range.0)
         (young_over d.b.row _ d.b.opened s.rasmax (next d) (k.bank B).opened t.young_b s.rasmax_range.0);
-    power_up = and_false (not (quiet c));
+    power_up = and-false (not (quiet c));
     recovery = late_enough c f;
     operand = well_formed c f;
     misplaced = in_place c f;

@@ -6,7 +6,7 @@ use Rattle.rules.specs.declared.pins.BankName.{BankName}
 use Rattle.rules.specs.declared.pins.BankName.TheVariants.{A, B}
 use Rattle.rules.specs.declared.pins.Access.TheVariants.{Block}
 use Rattle.rules.specs.declared.pins.Command.TheVariants.{Column}
-use Rattle.rules.specs.State.{is_some}
+use Rattle.std.specs.Option.{is_some}
 use Rattle.rules.specs.Meaning.{Meaning, step, run}
 use Rattle.rules.specs.Cases.{nop, bw}
 use Rattle.rules.proofs.Below.{every, every_one}

@@ -51,7 +51,7 @@ recent_track (Activate m x r) b t u n h q y = go (same x b)
     go : (z : Bool) → Recent n (cond z (opened_track t r h) h).row (cond z (opened_track t r h) h).opened u
     go true = omega arith
     go false = y
-recent_track (Precharge both x) b t u n h q y = go (closes both x b) h.row
+recent_track (Precharge w) b t u n h q y = go (closes w b) h.row
   where
     go : (z : Bool) (v : Option ℕ) → Recent n (cond z (closed_track t v h) h).row (cond z (closed_track t v h) h).opened u
     go true None = y
@@ -82,7 +82,7 @@ young_track (Activate x n r) b t u h q y = go (same n b)
     go : (z : Bool) → Young (cond z (opened_track t r h) h).row (cond z (opened_track t r h) h).opened u
     go true = q
     go false = y
-young_track (Precharge both n) b t u h q y = go (closes both n b) h.row
+young_track (Precharge w) b t u h q y = go (closes w b) h.row
   where
     go : (z : Bool) (x : Option ℕ) → Young (cond z (closed_track t x h) h).row (cond z (closed_track t x h) h).opened u
     go true None = y
@@ -130,7 +130,7 @@ behind_next (Activate x n r) b t h q = go (same n b)
     go : (z : Bool) → Behind t (cond z (opened_track t r h) h)
     go true = record { opened = omega arith; closed = q.closed; written = q.written }
     go false = q
-behind_next (Precharge both n) b t h q = go (closes both n b) h.row
+behind_next (Precharge w) b t h q = go (closes w b) h.row
   where
     go : (z : Bool) (x : Option ℕ) → Behind t (cond z (closed_track t x h) h)
     go true None = q
@@ -147,7 +147,7 @@ due_most s line Nop d f q = omega arith
 due_most s line Stop d f q = omega arith
 due_most s line (Column k b a8 c) d f q = omega arith
 due_most s line (Activate m b r) d f q = omega arith
-due_most s line (Precharge both b) d f q = omega arith
+due_most s line (Precharge w) d f q = omega arith
 due_most s line Refresh d f q = omega (arith, f.due)
 due_most s line (LoadMode a) d f q = omega arith
 due_most s line (LoadSpecial a) d f q = omega arith

@@ -4,6 +4,7 @@ use Rattle.rules.specs.declared.pins.Pins.{Pins}
 use Rattle.rules.specs.declared.pins.BankName.{BankName}
 use Rattle.rules.specs.declared.pins.BankName.TheVariants.{A, B}
 use Rattle.rules.specs.declared.pins.Access.TheVariants.{Read, Write, Block}
+use Rattle.rules.specs.declared.pins.Target.TheVariants.{One, Both}
 use Rattle.rules.specs.declared.pins.Command.TheVariants.{Nop, Column, Activate, Precharge, Refresh, LoadSpecial}
 use Rattle.rules.specs.Pins.{named, eighth}
 use Rattle.rules.specs.Cases.{L, H, line, nop, pre_both, ref, load_mask, load_colour, actm, rd, wr, bw}
@@ -42,11 +43,11 @@ brings_actm b r h = record { is_command = λ i. Activate true (bank_is b r h i) 
 abbrev pub pre : BankName → Pins
 pre b = line L L H L L 0 (at_bank b 0) 0
 
-pub brings_pre : (b : BankName) → Brings (pre b) (Precharge false b)
+pub brings_pre : (b : BankName) → Brings (pre b) (Precharge (One b))
 brings_pre A = record { is_command = refl; low = refl; word = omega arith }
 brings_pre B = record { is_command = refl; low = refl; word = omega arith }
 
-pub brings_pre_both : Brings pre_both (Precharge true A)
+pub brings_pre_both : Brings pre_both (Precharge Both)
 brings_pre_both = record { is_command = refl; low = refl; word = omega arith }
 
 pub brings_ref : Brings ref Refresh

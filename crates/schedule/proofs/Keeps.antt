@@ -1,5 +1,6 @@
 -- What a command that fits leaves.
 use Rattle.std.proofs.Common.{◌≡◌, ℕ, ◌+◌, ◌/◌, ◌^◌, ◌<◌, ◌≤◌, Bool, true, false, cond, ◌&&◌, eqb, List, [], ◌∷◌, length, Some, None, Option, refl, ap, ◌∙◌, arith}
+use Rattle.std.proofs.Math.Bool.{and-false}
 use Rattle.sheet.specs.declared.sheet.Sheet.{Sheet}
 use Rattle.rules.specs.declared.pins.Pins.{Pins}
 use Rattle.rules.specs.declared.pins.BankName.{BankName}
@@ -8,7 +9,6 @@ use Rattle.rules.specs.declared.pins.Access.{Access}
 use Rattle.rules.specs.declared.pins.Access.TheVariants.{Read, Write, Block}
 use Rattle.rules.specs.declared.pins.Command.{Command}
 use Rattle.rules.specs.declared.pins.Command.TheVariants.{Inhibit, Nop, Stop, Column, Activate, Precharge, Refresh, LoadMode, LoadSpecial}
-use Rattle.rules.specs.declared.state.Row.TheVariants.{Active}
 use Rattle.rules.specs.declared.state.Bank.{Bank}
 use Rattle.rules.specs.declared.state.Length.TheVariants.{One}
 use Rattle.rules.specs.declared.state.Registers.{Registers}
@@ -16,8 +16,9 @@ use Rattle.rules.specs.declared.state.Work.{Work}
 use Rattle.rules.specs.declared.state.Work.TheVariants.{Nothing, Take, Store, Paint}
 use Rattle.rules.specs.Pins.{same}
 use Rattle.rules.specs.Delay.{passed, leaving}
-use Rattle.rules.specs.State.{State, at, is_some}
-use Rattle.rules.specs.Beat.{beat_of, closes, current, next_burst, reads_cell}
+use Rattle.rules.specs.State.{State, at}
+use Rattle.std.specs.Option.{is_some}
+use Rattle.rules.specs.Beat.{beat_of, closes, is_both, current, next_burst, reads_cell}
 use Rattle.rules.specs.Step.{opened_by, closed_by, noted, next_bank, next_registers, next_steps, next_past, is_refresh, moved}
 use Rattle.rules.specs.Cells.{place, work_in, work_of, done, taken}
 use Rattle.rules.specs.Meaning.{Meaning}
@@ -29,7 +30,7 @@ use Rattle.schedule.specs.Line.{value, beats, words, driven}
 use Rattle.schedule.specs.Ledger.{track, next, period, as_row, bank_told, state_told, told, WasBy, WasBefore, Dated, Paced, Steady}
 use Rattle.schedule.specs.Fit.{Fit, KeptBus}
 use Rattle.schedule.specs.After.{next_register, closed_track, written_track, opened_track, next_track, after, row_number, address, stored, asked}
-use Rattle.schedule.proofs.Times.{before_later, refresh_paced, and_false}
+use Rattle.schedule.proofs.Times.{before_later, refresh_paced}
 use Rattle.schedule.proofs.Lines.{map_passed, driven_lanes}
 use Rattle.schedule.proofs.Small.{whole, put_below, cond_below}
 
@@ -56,7 +57,7 @@ written_row false t h = refl
 
 opened_row : (z : Bool) (t r : ℕ) (x : Bool) (h : Track) (k : Bank) → x ≡ true
     → (cond z (opened_by t x r (bank_told h k)) (bank_told h k)).row ≡ as_row (cond z (opened_track t r h) h).row
-opened_row true t r x h k e = ap (λ y. Active r y) e
+opened_row true t r x h k e = ap (λ y. Some (record { row = r; masked = y })) e
 opened_row false t r x h k e = refl
 
 closed_row : (z c : Bool) (t : ℕ) (h : Track) (k : Bank) (x : Option ℕ) → h.row ≡ x
@@ -106,7 +107,7 @@ worked s d dq (Column Read b h c) = Take (address s d b c)
 worked s d dq (Column Write b h c) = Store (address s d b c) d.mask dq
 worked s d dq (Column Block b h c) = Paint (address s d b c) dq d.mask d.colour
 worked s d dq (Activate x b r) = Nothing
-worked s d dq (Precharge both b) = Nothing
+worked s d dq (Precharge w) = Nothing
 worked s d dq Refresh = Nothing
 worked s d dq (LoadMode a) = Nothing
 worked s d dq (LoadSpecial a) = Nothing
@@ -119,7 +120,7 @@ worked_stored s d dq (Column Read b h c) f = refl
 worked_stored s d dq (Column Write b h c) f = refl
 worked_stored s d dq (Column Block b h c) f = refl
 worked_stored s d dq (Activate x b r) f = refl
-worked_stored s d dq (Precharge both b) f = refl
+worked_stored s d dq (Precharge w) f = refl
 worked_stored s d dq Refresh f = refl
 worked_stored s d dq (LoadMode a) f = refl
 worked_stored s d dq (LoadSpecial a) f = refl
@@ -132,7 +133,7 @@ worked_asked s d dq (Column Read b h c) f = refl
 worked_asked s d dq (Column Write b h c) f = refl
 worked_asked s d dq (Column Block b h c) f = refl
 worked_asked s d dq (Activate x b r) f = refl
-worked_asked s d dq (Precharge both b) f = refl
+worked_asked s d dq (Precharge w) f = refl
 worked_asked s d dq Refresh f = refl
 worked_asked s d dq (LoadMode a) f = refl
 worked_asked s d dq (LoadSpecial a) f = refl
@@ -159,7 +160,7 @@ module _ (s : Sheet) (line : List (Option ℕ)) (m : Meaning) (d : Ledger) (p : 
   row_told (Column Write n x c) b h k f = written_row (same n b) (next d) h
   row_told (Column Block n x c) b h k f = written_row (same n b) (next d) h
   row_told (Activate x n r) b h k f = opened_row (same n b) (next d) r x h k f.0
-  row_told (Precharge both n) b h k f = closed_row (closes both n b) _ (next d) h k h.row refl
+  row_told (Precharge w) b h k f = closed_row (closes w b) _ (next d) h k h.row refl
   row_told Refresh b h k f = refl
   row_told (LoadMode a) b h k f = refl
   row_told (LoadSpecial a) b h k f = refl
@@ -173,7 +174,7 @@ module _ (s : Sheet) (line : List (Option ℕ)) (m : Meaning) (d : Ledger) (p : 
   next_dated (Column Write n x c) b h k q = written_dated (same n b) (next d) h k q
   next_dated (Column Block n x c) b h k q = written_dated (same n b) (next d) h k q
   next_dated (Activate x n r) b h k q = opened_dated (same n b) x (next d) r h k q
-  next_dated (Precharge both n) b h k q = closed_dated (closes both n b) _ (next d) h k h.row refl (and_false both) q
+  next_dated (Precharge w) b h k q = closed_dated (closes w b) _ (next d) h k h.row refl (and-false (is_both w)) q
   next_dated Refresh b h k q = written_dated false (next d) h k q
   next_dated (LoadMode a) b h k q = written_dated false (next d) h k q
   next_dated (LoadSpecial a) b h k q = written_dated false (next d) h k q
@@ -191,7 +192,7 @@ module _ (s : Sheet) (line : List (Option ℕ)) (m : Meaning) (d : Ledger) (p : 
   registers_told Stop f = refl
   registers_told (Column k b h c) f = refl
   registers_told (Activate x b r) f = refl
-  registers_told (Precharge both b) f = refl
+  registers_told (Precharge w) f = refl
   registers_told Refresh f = refl
   registers_told (LoadMode a) f = absurd f
   registers_told (LoadSpecial a) f = refl
@@ -204,7 +205,7 @@ module _ (s : Sheet) (line : List (Option ℕ)) (m : Meaning) (d : Ledger) (p : 
   burst_told (Column Write b h c) = refl
   burst_told (Column Block b h c) = refl
   burst_told (Activate x b r) = refl
-  burst_told (Precharge both b) = refl
+  burst_told (Precharge w) = refl
   burst_told Refresh = refl
   burst_told (LoadMode a) = refl
   burst_told (LoadSpecial a) = refl
@@ -215,7 +216,7 @@ module _ (s : Sheet) (line : List (Option ℕ)) (m : Meaning) (d : Ledger) (p : 
   steps_told Stop = refl
   steps_told (Column k b h c) = refl
   steps_told (Activate x b r) = refl
-  steps_told (Precharge both b) = refl
+  steps_told (Precharge w) = refl
   steps_told Refresh = refl
   steps_told (LoadMode a) = refl
   steps_told (LoadSpecial a) = refl
@@ -228,7 +229,7 @@ module _ (s : Sheet) (line : List (Option ℕ)) (m : Meaning) (d : Ledger) (p : 
   beat_told (Column Write b h c) = refl
   beat_told (Column Block b h c) = refl
   beat_told (Activate x b r) = refl
-  beat_told (Precharge both b) = refl
+  beat_told (Precharge w) = refl
   beat_told Refresh = refl
   beat_told (LoadMode a) = refl
   beat_told (LoadSpecial a) = refl
@@ -254,7 +255,7 @@ module _ (s : Sheet) (line : List (Option ℕ)) (m : Meaning) (d : Ledger) (p : 
       ∙ in_bank Write b c _ (store_in s.rows S.registers p b c (track d b).row f.0.row_open w)
   work_told (Column Block b h c) f w = in_bank Block b c _ (paint_in s.rows S.registers p b c (track d b).row f.0.row_open w)
   work_told (Activate x b r) f w = refl
-  work_told (Precharge both b) f w = refl
+  work_told (Precharge y) f w = refl
   work_told Refresh f w = refl
   work_told (LoadMode a) f w = refl
   work_told (LoadSpecial a) f w = refl
@@ -276,7 +277,7 @@ module _ (s : Sheet) (line : List (Option ℕ)) (m : Meaning) (d : Ledger) (p : 
   stored_below (Column Write b y c) f h q w x = cond_below (eqb x (address s d b c)) _ _ _ (put_below _ p.dq (f x) q (h x)) (h x)
   stored_below (Column Block b y c) f h q w x = cond_below (eqb (x / 8) (address s d b c / 8)) _ _ _ (put_below _ d.colour (f x) w (h x)) (h x)
   stored_below (Activate y b r) f h q w x = h x
-  stored_below (Precharge both b) f h q w x = h x
+  stored_below (Precharge y) f h q w x = h x
   stored_below Refresh f h q w x = h x
   stored_below (LoadMode a) f h q w x = h x
   stored_below (LoadSpecial a) f h q w x = h x
@@ -287,7 +288,7 @@ module _ (s : Sheet) (line : List (Option ℕ)) (m : Meaning) (d : Ledger) (p : 
   register_below code x Stop h q = h
   register_below code x (Column k b y c) h q = h
   register_below code x (Activate k b r) h q = h
-  register_below code x (Precharge both b) h q = h
+  register_below code x (Precharge w) h q = h
   register_below code x Refresh h q = h
   register_below code x (LoadMode a) h q = h
   register_below code x (LoadSpecial a) h q = cond_below (eqb a code) p.dq x _ q h
@@ -308,7 +309,7 @@ module _ (s : Sheet) (line : List (Option ℕ)) (m : Meaning) (d : Ledger) (p : 
   refreshed_after (Column Write b h c) f q = q
   refreshed_after (Column Block b h c) f q = q
   refreshed_after (Activate x b r) f q = q
-  refreshed_after (Precharge both b) f q = q
+  refreshed_after (Precharge w) f q = q
   refreshed_after Refresh f q = omega arith
   refreshed_after (LoadMode a) f q = absurd f
   refreshed_after (LoadSpecial a) f q = before_later m.state.past.refreshed _ _ _ q (omega (arith, f.free))
@@ -322,7 +323,7 @@ module _ (s : Sheet) (line : List (Option ℕ)) (m : Meaning) (d : Ledger) (p : 
   loaded_after (Column Write b h c) f q = q
   loaded_after (Column Block b h c) f q = q
   loaded_after (Activate x b r) f q = q
-  loaded_after (Precharge both b) f q = q
+  loaded_after (Precharge w) f q = q
   loaded_after Refresh f q = before_later m.state.past.loaded _ _ _ q (omega (arith, f.free))
   loaded_after (LoadMode a) f q = absurd f
   loaded_after (LoadSpecial a) f q = omega arith
@@ -335,7 +336,7 @@ module _ (s : Sheet) (line : List (Option ℕ)) (m : Meaning) (d : Ledger) (p : 
   blocked_after (Column Write b h c) q = q
   blocked_after (Column Block b h c) q = omega arith
   blocked_after (Activate x b r) q = q
-  blocked_after (Precharge both b) q = q
+  blocked_after (Precharge w) q = q
   blocked_after Refresh q = q
   blocked_after (LoadMode a) q = q
   blocked_after (LoadSpecial a) q = q
@@ -349,7 +350,7 @@ module _ (s : Sheet) (line : List (Option ℕ)) (m : Meaning) (d : Ledger) (p : 
   paced_after Stop f q = q
   paced_after (Column k b h c) f q = q
   paced_after (Activate x b r) f q = q
-  paced_after (Precharge both b) f q = q
+  paced_after (Precharge w) f q = q
   paced_after Refresh f q = refresh_paced (period s) d.due (next d) m.state.marks f.due q
   paced_after (LoadMode a) f q = q
   paced_after (LoadSpecial a) f q = q

@@ -1,5 +1,6 @@
 -- The line of reads.
 use Rattle.std.proofs.Common.{◌≡◌, ℕ, zero, suc, ◌+◌, ◌-◌, ◌<◌, ◌≤◌, false, List, [], ◌∷◌, ◌++◌, map, replicate, Some, None, Option, sym, refl, ap, ◌∙◌, add-zero, arith, le-ltb, lt-ltb}
+use Rattle.std.proofs.lemmas.List.{map-append}
 use lib.Bits.{bit_and}
 use Rattle.rules.specs.Words.{wide}
 use Rattle.rules.specs.Delay.{passed, leaving, any_in}
@@ -9,13 +10,9 @@ use Rattle.schedule.specs.Reading.{window, expected}
 
 -- a line of any kind
 
-map_push : {X Y : Type 0} (f : X → Y) (xs : List X) (x : X) → map f (xs ++ (x ∷ [])) ≡ map f xs ++ (f x ∷ [])
-map_push f [] x = refl
-map_push f (y ∷ ys) x = ap (λ zs. f y ∷ zs) (map_push f ys x)
-
 pub map_passed : {X Y : Type 0} (f : X → Y) (xs : List X) (x : X) → passed (map f xs) (f x) ≡ map f (passed xs x)
 map_passed f [] x = refl
-map_passed f (y ∷ ys) x = sym (map_push f ys x)
+map_passed f (y ∷ ys) x = sym (map-append f ys (x ∷ []))
 
 pub map_same : {X Y : Type 0} (f : X → Y) (k : ℕ) (x : X) → map f (replicate k x) ≡ replicate k (f x)
 map_same f zero x = refl

@@ -7,7 +7,7 @@ use Rattle.rules.specs.declared.pins.BankName.TheVariants.{A, B}
 use Rattle.rules.specs.declared.pins.Access.TheVariants.{Read}
 use Rattle.rules.specs.declared.pins.Command.TheVariants.{Nop, Column}
 use Rattle.rules.specs.Delay.{passed, leaving}
-use Rattle.rules.specs.State.{is_some}
+use Rattle.std.specs.Option.{is_some}
 use Rattle.rules.specs.Meaning.{Meaning, step, out}
 use Rattle.schedule.specs.declared.ledger.Ledger.{Ledger}
 use Rattle.schedule.specs.Line.{silent, driven}

@@ -1,5 +1,5 @@
 -- Look-back times and refresh marks, from the ledger's numbers.
-use Rattle.std.proofs.Common.{◌≡◌, ℕ, ◌+◌, ◌-◌, ◌*◌, ◌≤◌, Bool, true, false, ◌&&◌, ◌||◌, List, [], ◌∷◌, ◌++◌, length, Some, None, Option, sym, refl, ap, ◌∙◌, mul-zero, mul-suc, arith, le-ltb}
+use Rattle.std.proofs.Common.{◌≡◌, ℕ, ◌+◌, ◌-◌, ◌*◌, ◌≤◌, Bool, true, false, ◌&&◌, List, [], ◌∷◌, ◌++◌, length, Some, None, Option, sym, refl, ap, ◌∙◌, mul-zero, mul-suc, arith, le-ltb}
 use Rattle.std.proofs.lemmas.Nat.{div-add-mod'}
 use Rattle.sheet.specs.declared.sheet.Sheet.{Sheet}
 use Rattle.rules.specs.Delay.{passed}
@@ -59,13 +59,6 @@ pub refresh_paced : (x due t : ℕ) (us : List ℕ) → due ≤ t → Paced x du
 refresh_paced x due t [] h q = tt
 refresh_paced x due t (u ∷ us) h q = joined x due t us h q.1
 
-pub and_false : (b : Bool) → (b && false) ≡ false
-and_false true = refl
-and_false false = refl
-
 pub and_when : (b c : Bool) → (b ≡ true → c ≡ false) → (b && c) ≡ false
 and_when true c h = h refl
 and_when false c h = refl
-
-pub or_both : (b c : Bool) → b ≡ false → c ≡ false → (b || c) ≡ false
-or_both b c e f = simp (e, f)

@@ -1,19 +1,22 @@
 -- Settling and priming.
 use Rattle.std.proofs.Common.{◌≡◌, ℕ, zero, suc, ◌+◌, ◌-◌, ◌*◌, ◌/◌, ◌%◌, ◌^◌, ◌<◌, ◌≤◌, Bool, true, false, cond, not, ◌&&◌, eqb, ltb, List, [], ◌∷◌, ◌++◌, length, replicate, None, sym, refl, ap, ◌∙◌, subst, add-zero, mod-eq_of_lt, zero-add, arith, length-append, le-ltb, lt-ltb, eq-eqb, ne_eqb}
+use Rattle.std.proofs.Math.Nat.{mul-mod_left}
+use Rattle.std.proofs.lemmas.Bool.{or_from}
 use lib.Bits.{bit_and}
 use lib.ListN.{length-replicate}
-use Rattle.std.proofs.lemmas.Nat.{mod-mul-add}
 use Rattle.sheet.specs.declared.sheet.Sheet.{Sheet}
 use Rattle.rules.specs.declared.pins.Pins.{Pins}
 use Rattle.rules.specs.declared.pins.BankName.TheVariants.{A, B}
 use Rattle.rules.specs.declared.pins.Command.{Command}
+use Rattle.rules.specs.declared.pins.Target.TheVariants.{Both}
 use Rattle.rules.specs.declared.pins.Command.TheVariants.{Nop, Precharge, Refresh, LoadMode}
 use Rattle.rules.specs.declared.state.Length.TheVariants.{One}
 use Rattle.rules.specs.declared.state.Mode.{Mode}
 use Rattle.rules.specs.Words.{wide}
 use Rattle.rules.specs.Pins.{command}
 use Rattle.rules.specs.Delay.{passed, leaving}
-use Rattle.rules.specs.State.{is_some, ready}
+use Rattle.rules.specs.State.{ready}
+use Rattle.std.specs.Option.{is_some}
 use Rattle.rules.specs.Faults.{lanes_of, listed_mode, found}
 use Rattle.rules.specs.Step.{coded}
 use Rattle.rules.specs.Meaning.{Meaning, switch_on, run, outs}
@@ -24,7 +27,6 @@ use Rattle.schedule.specs.Line.{value, silent, beats, words}
 use Rattle.schedule.specs.Ledger.{period, Paced}
 use Rattle.schedule.specs.Stretch.{heard, Stretch, Rests}
 use Rattle.schedule.specs.Waking.{Waking, wake, switched, shut, tuned, once, primed, awake, Passes, waking_at, mode_code, priming_pins, WakesByStep, settled, Settles, Primes}
-use Rattle.schedule.proofs.Times.{or_both}
 use Rattle.schedule.proofs.Lines.{map_same, passed_same, leaving_same}
 use Rattle.schedule.proofs.Keeps.{moved_as}
 use Rattle.schedule.proofs.Obeying.{step_as, out_as}
@@ -32,9 +34,6 @@ use Rattle.schedule.proofs.Chains.{heard_append}
 
 counted : (t : ℕ) → t < 2 ^ 62 → eqb t (2 ^ 62) ≡ false
 counted t h = ne_eqb t (2 ^ 62) (omega arith)
-
-even : (x : ℕ) → x * 2 % 2 ≡ 0
-even x = subst (λ y. y % 2 ≡ 0) (add-zero (x * 2)) (mod-mul-add x 2 0 (omega arith))
 
 -- a silent line drives nothing
 pub silent_shown : (k : ℕ)
@@ -124,8 +123,8 @@ module _ (s : Sheet) (f : ℕ → ℕ) where
   allowed t h = ap (λ z. not (z && true)) (lt-ltb s.pup t h)
 
   pub shuts : (t : ℕ) → s.pup ≤ t → t + 1 < 2 ^ 62 → Passes (wake s (switched t) f) (pre_both ∷ []) (wake s (shut (t + 1) (t + 1)) f)
-  shuts t h q = one s (switched t) f pre_both (Precharge true A) _ refl
-      (none_found (wake s (switched t) f).state (Precharge true A) (record {
+  shuts t h q = one s (switched t) f pre_both (Precharge Both) _ refl
+      (none_found (wake s (switched t) f).state (Precharge Both) (record {
         count_end = counted _ q;
         retention = refl;
         row_time = refl;
@@ -151,7 +150,7 @@ module _ (s : Sheet) (f : ℕ → ℕ) where
       let far : ltb (t + 1) (c + s.rp) ≡ false = le-ltb (t + 1) (c + s.rp) r in
       let e₁ : (mode_code s) % 8 ≡ 0 = omega arith in
       let e₃ : (mode_code s) / 8 ≡ s.cl * 2 = omega arith in
-      let e₂ : (mode_code s) / 8 % 2 ≡ 0 = ap (λ y. y % 2) e₃ ∙ even s.cl in
+      let e₂ : (mode_code s) / 8 % 2 ≡ 0 = ap (λ y. y % 2) e₃ ∙ mul-mod_left s.cl 2 in
       let u : ◌≡◌ {A = Mode} (record { length = coded ((mode_code s) % 8); interleaved = eqb ((mode_code s) / 8 % 2) 1 }) (record { length = One; interleaved = false }) =
       λ i. record { length = coded (e₁ i); interleaved = eqb (e₂ i) 1 } in
       let n : Meaning = wake s (tuned c (t + 1) (t + 1)) f in
@@ -164,7 +163,7 @@ module _ (s : Sheet) (f : ℕ → ℕ) where
         recovery = refl;
         operand = is_mode;
         misplaced = refl;
-        distance = or_both _ _ far far;
+        distance = or_from _ _ far far;
         contention = refl;
       }))
       (λ i. record {
@@ -199,7 +198,7 @@ module _ (s : Sheet) (f : ℕ → ℕ) where
         recovery = le-ltb (t + 1) (l + 2) k;
         operand = refl;
         misplaced = refl;
-        distance = or_both _ _ (or_both _ _ far far) refl;
+        distance = or_from _ _ (or_from _ _ far far) refl;
         contention = refl;
       }))
       (still s.cl (lined (wake s (once c l (t + 1) (t + 1)) f) []))
@@ -214,10 +213,10 @@ module _ (s : Sheet) (f : ℕ → ℕ) where
         retention = refl;
         row_time = refl;
         power_up = allowed (t + 1) (omega arith);
-        recovery = or_both _ _ (le-ltb (t + 1) (r + s.rc) x) (le-ltb (t + 1) (l + 2) m);
+        recovery = or_from _ _ (le-ltb (t + 1) (r + s.rc) x) (le-ltb (t + 1) (l + 2) m);
         operand = refl;
         misplaced = refl;
-        distance = or_both _ _ (or_both _ _ far far) refl;
+        distance = or_from _ _ (or_from _ _ far far) refl;
         contention = refl;
       }))
       (still s.cl (lined (awake s f c l (t + 1)) (replicate s.n (t + 1))))

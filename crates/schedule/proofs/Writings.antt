@@ -6,7 +6,7 @@ use Rattle.rules.specs.declared.pins.BankName.{BankName}
 use Rattle.rules.specs.declared.pins.BankName.TheVariants.{A, B}
 use Rattle.rules.specs.declared.pins.Access.TheVariants.{Write}
 use Rattle.rules.specs.declared.pins.Command.TheVariants.{Column}
-use Rattle.rules.specs.State.{is_some}
+use Rattle.std.specs.Option.{is_some}
 use Rattle.rules.specs.Cells.{written}
 use Rattle.rules.specs.Meaning.{Meaning, step, run}
 use Rattle.rules.specs.Cases.{wr}
@@ -105,6 +105,7 @@ timely_wrote : (d : Ledger) (b : BankName) (u t : ℕ) → Timely d t → Timely
 timely_wrote d A u t q = record { counts = q.counts; fresh = q.fresh; young_a = q.young_a; young_b = q.young_b }
 timely_wrote d B u t q = record { counts = q.counts; fresh = q.fresh; young_a = q.young_a; young_b = q.young_b }
 
+-- by cases: a bank's track computes only where the bank is named
 writable_next : (s : Sheet) (d : Ledger) (b : BankName) (c w : ℕ) (ws : List ℕ) → Writable s d b c (w ∷ ws) → Writable s (wrote_at (next d) b d) b (suc c) ws
 writable_next s d A c w ws q = record {
   inside = omega (arith, q.inside);

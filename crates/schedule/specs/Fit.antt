@@ -4,11 +4,12 @@ use Rattle.sheet.specs.declared.sheet.Sheet.{Sheet}
 use Rattle.rules.specs.declared.pins.BankName.{BankName}
 use Rattle.rules.specs.declared.pins.BankName.TheVariants.{A, B}
 use Rattle.rules.specs.declared.pins.Access.TheVariants.{Read, Write, Block}
+use Rattle.rules.specs.declared.pins.Target.{Target}
 use Rattle.rules.specs.declared.pins.Command.{Command}
 use Rattle.rules.specs.declared.pins.Command.TheVariants.{Inhibit, Nop, Stop, Column, Activate, Precharge, Refresh, LoadMode, LoadSpecial}
 use Rattle.rules.specs.Pins.{other}
 use Rattle.rules.specs.Delay.{leaving, any_in}
-use Rattle.rules.specs.State.{is_some}
+use Rattle.std.specs.Option.{is_some}
 use Rattle.rules.specs.Beat.{closes}
 use Rattle.rules.specs.Faults.{listed_special}
 use Rattle.schedule.specs.declared.ledger.Ledger.{Ledger}
@@ -42,10 +43,10 @@ abbrev pub Spent : Sheet → Option ℕ → Track → ℕ → Type 0
 Spent s None h t = Unit {0}
 Spent s (Some r) h t = (h.opened + s.ras ≤ t) × (h.written + s.wr ≤ t)
 
-pub record Closable (s : Sheet) (d : Ledger) (both : Bool) (b : BankName) : Type 0 where
+pub record Closable (s : Sheet) (d : Ledger) (w : Target) : Type 0 where
   pub free : d.free ≤ next d
-  pub spent_a : closes both b A ≡ true → Spent s d.a.row d.a (next d)
-  pub spent_b : closes both b B ≡ true → Spent s d.b.row d.b (next d)
+  pub spent_a : closes w A ≡ true → Spent s d.a.row d.a (next d)
+  pub spent_b : closes w B ≡ true → Spent s d.b.row d.b (next d)
 
 pub record Refreshable (s : Sheet) (d : Ledger) : Type 0 where
   pub due : d.due ≤ next d
@@ -73,7 +74,7 @@ Fit s line d (Column Read b a8 c) = Reachable s d b a8
 Fit s line d (Column Write b a8 c) = Reachable s d b a8 × Drivable line d
 Fit s line d (Column Block b a8 c) = Reachable s d b a8 × Drivable line d
 Fit s line d (Activate masked b r) = (masked ≡ true) × Openable s d b r
-Fit s line d (Precharge both b) = Closable s d both b
+Fit s line d (Precharge w) = Closable s d w
 Fit s line d Refresh = Refreshable s d
 Fit s line d (LoadMode a) = ⊥
 Fit s line d (LoadSpecial a) = Loadable s line d a

@@ -3,8 +3,7 @@ use Rattle.std.specs.Prelude.{◌≡◌, ℕ, ◌+◌, ◌-◌, ◌/◌, ◌^◌
 use Rattle.sheet.specs.declared.sheet.Sheet.{Sheet}
 use Rattle.rules.specs.declared.pins.BankName.{BankName}
 use Rattle.rules.specs.declared.pins.BankName.TheVariants.{A, B}
-use Rattle.rules.specs.declared.state.Row.{Row}
-use Rattle.rules.specs.declared.state.Row.TheVariants.{Idle, Active}
+use Rattle.rules.specs.declared.state.OpenRow.{OpenRow}
 use Rattle.rules.specs.declared.state.Bank.{Bank}
 use Rattle.rules.specs.declared.state.Length.TheVariants.{One}
 use Rattle.rules.specs.State.{State, Time, at}
@@ -26,9 +25,9 @@ abbrev pub period : Sheet → ℕ
 period s = (s.ret - 1024) / s.n
 
 -- every row is opened by ACTM
-abbrev pub as_row : Option ℕ → Row
-as_row None = Idle
-as_row (Some r) = Active r true
+abbrev pub as_row : Option ℕ → Option OpenRow
+as_row None = None
+as_row (Some r) = Some (record { row = r; masked = true })
 
 abbrev pub bank_told : Track → Bank → Bank
 bank_told h k = record { row = as_row h.row; opened = k.opened; closed = k.closed; written = k.written }

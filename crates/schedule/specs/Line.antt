@@ -1,7 +1,7 @@
 -- The line of reads, with the word of each beat that is due: Some word, or None where no beat is due.
 use Rattle.std.specs.Prelude.{ℕ, Bool, List, map, replicate, Some, None, Option, bit_and}
 use Rattle.rules.specs.Words.{wide}
-use Rattle.rules.specs.State.{is_some}
+use Rattle.std.specs.Option.{is_some}
 
 abbrev pub value : Option ℕ → ℕ
 value None = 0

@@ -6,7 +6,7 @@ use Rattle.rules.specs.declared.pins.BankName.{BankName}
 use Rattle.rules.specs.declared.pins.Access.TheVariants.{Read}
 use Rattle.rules.specs.declared.pins.Command.{Command}
 use Rattle.rules.specs.declared.pins.Command.TheVariants.{Nop, Column}
-use Rattle.rules.specs.State.{is_some}
+use Rattle.std.specs.Option.{is_some}
 use Rattle.rules.specs.Cells.{bank_number}
 use Rattle.rules.specs.Meaning.{Meaning}
 use Rattle.rules.specs.Cases.{nop, rd}

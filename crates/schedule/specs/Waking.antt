@@ -1,7 +1,6 @@
 -- A device in power-up, under a driver that settles and primes it.
 use Rattle.std.specs.Prelude.{◌≡◌, ℕ, ◌+◌, ◌-◌, ◌*◌, ◌^◌, ◌<◌, ◌≤◌, true, false, List, [], ◌∷◌, ◌++◌, replicate, Some, None}
 use Rattle.sheet.specs.declared.sheet.Sheet.{Sheet}
-use Rattle.rules.specs.declared.state.Row.TheVariants.{Idle}
 use Rattle.rules.specs.declared.state.Bank.{Bank}
 use Rattle.rules.specs.declared.state.Length.TheVariants.{One}
 use Rattle.rules.specs.declared.state.Steps.{Steps}
@@ -24,7 +23,7 @@ pub record Waking : Type 0 where
   pub refreshed : Time
 
 abbrev pub shut_bank : Time → Bank
-shut_bank t = record { row = Idle; opened = None; closed = t; written = None }
+shut_bank t = record { row = None; opened = None; closed = t; written = None }
 
 abbrev pub wake : Sheet → Waking → (ℕ → ℕ) → Meaning
 wake s w f = record {

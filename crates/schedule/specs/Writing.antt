@@ -5,7 +5,7 @@ use Rattle.rules.specs.declared.pins.Pins.{Pins}
 use Rattle.rules.specs.declared.pins.BankName.{BankName}
 use Rattle.rules.specs.declared.pins.BankName.TheVariants.{A, B}
 use Rattle.rules.specs.Pins.{same}
-use Rattle.rules.specs.State.{is_some}
+use Rattle.std.specs.Option.{is_some}
 use Rattle.rules.specs.Cells.{written}
 use Rattle.rules.specs.Cases.{wr}
 use Rattle.schedule.specs.declared.ledger.Ledger.{Ledger}

@@ -7,47 +7,35 @@ ghost use Rattle.schedule.specs.Spread.{Spreads};
 ghost use Rattle.schedule.specs.Waking.{Primes, Settles, WakesByStep};
 
 // A command that fits the ledger is no fault, and the ledger, the cells and the bus are as told.
-pub fn commands_obeyed() -> u8
+pub fn commands_obeyed()
     ensures obeys { Obeys }
     ensures says { Says }
-{
-    0
-}
+{}
 
 // One command, quiet clocks, words read, words written and blocks filled, each as a stretch of clocks.
-pub fn rows_served() -> u8
+pub fn rows_served()
     ensures { RowsServed }
-{
-    0
-}
+{}
 
 // What words written and block writes in a row come to.
-pub fn words_spread() -> u8
+pub fn words_spread()
     ensures { Spreads }
-{
-    0
-}
+{}
 
 // From any state, switched on, settled and primed in at most 700 clocks, a device is at rest.
-pub fn device_wakes() -> u8
+pub fn device_wakes()
     ensures settles { Settles }
     ensures primes { Primes 700 }
     ensures steps { WakesByStep }
-{
-    0
-}
+{}
 
 // How many clocks a driver has before it must refresh or close a row.
-pub fn budgets_hold() -> u8
+pub fn budgets_hold()
     ensures budgets { Budgets 700 324 }
     ensures current { KeepsCurrent }
-{
-    0
-}
+{}
 
 // Each address is one column of one row of one bank.
-pub fn addresses_lie() -> u8
+pub fn addresses_lie()
     ensures { Lies }
-{
-    0
-}
+{}

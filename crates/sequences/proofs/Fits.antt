@@ -3,7 +3,8 @@ use Rattle.std.proofs.Common.{◌≡◌, ℕ, ◌+◌, ◌^◌, ◌<◌, ◌≤�
 use Rattle.sheet.specs.declared.sheet.Sheet.{Sheet}
 use Rattle.rules.specs.declared.pins.BankName.{BankName}
 use Rattle.rules.specs.declared.pins.BankName.TheVariants.{A, B}
-use Rattle.rules.specs.State.{is_some}
+use Rattle.rules.specs.declared.pins.Target.TheVariants.{One, Both}
+use Rattle.std.specs.Option.{is_some}
 use Rattle.schedule.specs.declared.ledger.Ledger.{Ledger}
 use Rattle.schedule.specs.declared.ledger.Track.{Track}
 use Rattle.schedule.specs.Ledger.{track, Young, Timely}
@@ -29,11 +30,11 @@ spent_any s (Some r) h t p q = (p, q)
 never : {X : Type 0} → false ≡ true → X
 never e = let z : ◌≡◌ {A = ℕ} 0 1 = ap (λ b. cond b 1 0) e in absurd (omega arith)
 
-pub closable_one : (s : Sheet) (d : Ledger) (b : BankName) → Closable s (waited (close_time s b d) d) false b
+pub closable_one : (s : Sheet) (d : Ledger) (b : BankName) → Closable s (waited (close_time s b d) d) (One b)
 closable_one s d A = record { free = omega arith; spent_a = λ _. spent_any s d.a.row d.a _ (omega arith) (omega arith); spent_b = λ e. never e }
 closable_one s d B = record { free = omega arith; spent_a = λ e. never e; spent_b = λ _. spent_any s d.b.row d.b _ (omega arith) (omega arith) }
 
-pub closable_both : (s : Sheet) (d : Ledger) → Closable s (waited (close_both_time s d) d) true A
+pub closable_both : (s : Sheet) (d : Ledger) → Closable s (waited (close_both_time s d) d) Both
 closable_both s d = record {
   free = omega arith;
   spent_a = λ _. spent_any s d.a.row d.a _ (omega arith) (omega arith);

@@ -2,7 +2,7 @@
 use Rattle.std.specs.Prelude.{ℕ, ◌+◌, ◌-◌, max, Bool, true, false, cond, ◌||◌, Some, None, Option, ◌==◌, nat_le, nat_lt}
 use Rattle.sheet.specs.declared.sheet.Sheet.{Sheet}
 use Rattle.rules.specs.declared.pins.BankName.{BankName}
-use Rattle.rules.specs.declared.pins.BankName.TheVariants.{A}
+use Rattle.rules.specs.declared.pins.Target.TheVariants.{One, Both}
 use Rattle.rules.specs.declared.pins.Command.TheVariants.{Activate, Precharge, Refresh}
 use Rattle.rules.specs.Pins.{other}
 use Rattle.schedule.specs.declared.ledger.Ledger.{Ledger}
@@ -37,10 +37,10 @@ column_time s b d = max d.free (max ((track d b).opened + s.rcd) (d.block + s.bw
 
 -- The ledger after each.
 abbrev pub with_closed : Sheet → BankName → Ledger → Ledger
-with_closed s b d = after s 0 (Precharge false b) (waited (close_time s b d) d)
+with_closed s b d = after s 0 (Precharge (One b)) (waited (close_time s b d) d)
 
 abbrev pub with_both_closed : Sheet → Ledger → Ledger
-with_both_closed s d = after s 0 (Precharge true A) (waited (close_both_time s d) d)
+with_both_closed s d = after s 0 (Precharge Both) (waited (close_both_time s d) d)
 
 abbrev pub with_refresh : Sheet → Ledger → Ledger
 with_refresh s d = after s 0 Refresh (waited (refresh_time s d) d)

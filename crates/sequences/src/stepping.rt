@@ -5,7 +5,7 @@ ghost use Rattle.schedule.specs.Ledger.{Timely};
 ghost use Rattle.schedule.specs.Fit.{Fit};
 ghost use Rattle.schedule.specs.After.{after, stored, asked};
 ghost use Rattle.orders.specs.Signals.{Encodable};
-ghost use Rattle.sequences.specs.Gone.{Stands, Gone};
+ghost use Rattle.sequences.specs.Gone.{Gone};
 ghost use Rattle.sequences.specs.Times.{waited};
 
 use crate::channel::Channel;
@@ -16,7 +16,6 @@ use rules::Command;
 impl<D: Device> Channel<D> {
     // A command that reads nothing, at the next clock, with dq on the data pins.
     pub fn give(&mut self, command: Command, dq: u32)
-        requires stands { Stands D.Device.reachable D.Device.meaning self.old }
         requires timely { Timely self.old.ledger (self.old.ledger.clock + 1) }
         requires fit { Fit self.old.sheet (silent self.old.sheet.cl) self.old.ledger command }
         requires encodable { Encodable command }
@@ -30,20 +29,17 @@ impl<D: Device> Channel<D> {
 
     // Quiet clocks, until the next is at t or later.
     pub fn wait_until(&mut self, t: u64)
-        requires stands { Stands D.Device.reachable D.Device.meaning self.old }
         requires timely { Timely self.old.ledger t }
-        requires counted { self.old.ledger.clock < 2 ^ 62 }
         ensures ledger { self.new.ledger ≡ waited t self.old.ledger }
         ensures gone { Gone D.Device.reachable D.Device.meaning self.old self.new [] (D.Device.meaning self.old.device).cells }
     {
-        while self.ledger.clock + 1 < t {
+        for _next in self.ledger.clock + 1..t {
             self.give(Command::Nop, 0);
         }
     }
 
     // A command that reads nothing, at t or at the next clock if that is later.
     pub fn give_at(&mut self, t: u64, command: Command, dq: u32)
-        requires stands { Stands D.Device.reachable D.Device.meaning self.old }
         requires timely { Timely self.old.ledger (max (self.old.ledger.clock + 1) t) }
         requires fit { Fit self.old.sheet (silent self.old.sheet.cl) (waited t self.old.ledger) command }
         requires encodable { Encodable command }

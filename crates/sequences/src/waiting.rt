@@ -1,7 +1,7 @@
 // Long waits.
 ghost use Rattle.std.specs.Prelude.{◌≡◌, ◌+◌, ◌^◌, ◌<◌, ◌≤◌, max, []};
 ghost use Rattle.schedule.specs.Budget.{DueSoon};
-ghost use Rattle.sequences.specs.Gone.{Stands, Gone};
+ghost use Rattle.sequences.specs.Gone.{Gone};
 
 use crate::channel::Channel;
 use device::Device;
@@ -9,7 +9,6 @@ use device::Device;
 impl<D: Device> Channel<D> {
     // Closes both banks, and lets clocks pass until the count is at `end`, refreshing as due.
     pub fn pass_until(&mut self, end: u64)
-        requires stands { Stands D.Device.reachable D.Device.meaning self.old }
         requires soon { DueSoon self.old.ledger }
         requires counted { self.old.ledger.clock + 324 < 2 ^ 62 }
         requires early { end + 324 < 2 ^ 62 }

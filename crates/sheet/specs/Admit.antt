@@ -1,6 +1,7 @@
 -- Which thirteen numbers make a sheet.
 use Rattle.std.specs.Prelude.{ℕ, zero, suc, ◌+◌, ◌*◌, Bool, cond, ◌||◌, List, [], ◌∷◌, Ok, Err, Result, nat_lt, slice_index}
 use Rattle.sheet.specs.declared.sheet.Sheet.{Sheet}
+use Rattle.sheet.specs.Field.{place_of}
 use Rattle.sheet.specs.declared.admit.SheetError.{SheetError}
 use Rattle.sheet.specs.declared.admit.SheetError.TheVariants.{OutOfRange, RoundTooLong}
 
@@ -12,7 +13,7 @@ numbers s =
 -- An answer is a number with the values beside it: 0 with the sheet's numbers, 1 with the place of the first field
 -- out of range, 2 alone where ret is too small.
 abbrev pub refusal : SheetError → ℕ × List ℕ
-refusal (OutOfRange place) = (1, place ∷ [])
+refusal (OutOfRange f) = (1, place_of f ∷ [])
 refusal RoundTooLong = (2, [])
 
 abbrev pub answer : Result Sheet SheetError → ℕ × List ℕ
@@ -45,11 +46,11 @@ abbrev pub some_of : List ℕ → ℕ → ℕ → List ℕ
 some_of xs i zero = []
 some_of xs i (suc k) = slice_index xs i ∷ some_of xs (suc i) k
 
--- the first number out of its range, or else the last word
+-- the place of the first number out of its range, or else the last word
 abbrev pub checked : List ℕ → ℕ → List (ℕ × ℕ) → ℕ × List ℕ → ℕ × List ℕ
 checked xs i [] last = last
 checked xs i (r ∷ rs) last =
-    cond (out_of (slice_index xs i) r) (refusal (OutOfRange (suc i))) (checked xs (suc i) rs last)
+    cond (out_of (slice_index xs i) r) (1, suc i ∷ []) (checked xs (suc i) rs last)
 
 abbrev pub verdict : List ℕ → ℕ × List ℕ
 verdict xs = checked xs 0 ranges

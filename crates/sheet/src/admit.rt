@@ -1,19 +1,21 @@
 ghost use Rattle.std.specs.Prelude.{◌≡◌};
 ghost use Rattle.sheet.specs.Admit.{answer, verdict, numbers, out_of};
 
+use crate::field::Field;
 use crate::sheet::Sheet;
 
 // How many fields a sheet has; the order is the one in which the struct declares them.
 pub const FIELDS: usize = 13;
 
+// In the order of `Sheet::fields`, which `zip` puts beside it; a map of thirteen constants would be no plainer.
 pub const NAMES: [&str; FIELDS] = [
     "cl", "rows", "rcd", "rp", "ras", "rasmax", "rc", "rrd", "wr", "bwc", "n", "ret", "pup",
 ];
 
 #[derive(Clone, Copy, PartialEq, Eq, Debug)]
 pub enum SheetError {
-    // the place, from 1, of the first field out of range
-    OutOfRange(u8),
+    // the first field out of range
+    OutOfRange(Field),
     // ret is below 1,024 × n + 1,024
     RoundTooLong,
 }
@@ -46,47 +48,48 @@ impl Sheet {
             pup,
         ] = fields;
         if outside(cl, 1, 3) {
-            return Err(SheetError::OutOfRange(1));
+            return Err(SheetError::OutOfRange(Field::Cl));
         }
         if outside(rows, 0, 512) {
-            return Err(SheetError::OutOfRange(2));
+            return Err(SheetError::OutOfRange(Field::Rows));
         }
         if outside(rcd, 1, 15) {
-            return Err(SheetError::OutOfRange(3));
+            return Err(SheetError::OutOfRange(Field::Rcd));
         }
         if outside(rp, 1, 15) {
-            return Err(SheetError::OutOfRange(4));
+            return Err(SheetError::OutOfRange(Field::Rp));
         }
         if outside(ras, 1, 31) {
-            return Err(SheetError::OutOfRange(5));
+            return Err(SheetError::OutOfRange(Field::Ras));
         }
         if outside(rasmax, 2048, 65535) {
-            return Err(SheetError::OutOfRange(6));
+            return Err(SheetError::OutOfRange(Field::Rasmax));
         }
         if outside(rc, 1, 63) {
-            return Err(SheetError::OutOfRange(7));
+            return Err(SheetError::OutOfRange(Field::Rc));
         }
         if outside(rrd, 1, 15) {
-            return Err(SheetError::OutOfRange(8));
+            return Err(SheetError::OutOfRange(Field::Rrd));
         }
         if outside(wr, 1, 7) {
-            return Err(SheetError::OutOfRange(9));
+            return Err(SheetError::OutOfRange(Field::Wr));
         }
         if outside(bwc, 1, 7) {
-            return Err(SheetError::OutOfRange(10));
+            return Err(SheetError::OutOfRange(Field::Bwc));
         }
         if outside(n, 2, 1024) {
-            return Err(SheetError::OutOfRange(11));
+            return Err(SheetError::OutOfRange(Field::N));
         }
         if outside(ret, 0, 2147483648) {
-            return Err(SheetError::OutOfRange(12));
+            return Err(SheetError::OutOfRange(Field::Ret));
         }
         if outside(pup, 0, 65535) {
-            return Err(SheetError::OutOfRange(13));
+            return Err(SheetError::OutOfRange(Field::Pup));
         }
         if ret < 1024 * n + 1024 {
             return Err(SheetError::RoundTooLong);
         }
+        // By `as`: the ranges just tested fit, and `TryFrom` would have an error that cannot come.
         Ok(Sheet {
             cl: cl as u32,
             rows: rows as u32,

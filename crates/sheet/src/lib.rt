@@ -2,9 +2,11 @@
 #![tactic(auto)]
 
 mod admit;
+mod field;
 mod lowered;
 mod sheet;
 
 pub use admit::{FIELDS, NAMES, SheetError};
+pub use field::Field;
 pub use lowered::sheets_same;
 pub use sheet::Sheet;

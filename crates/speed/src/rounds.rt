@@ -1,9 +1,10 @@
 use anyhow::anyhow;
-use device::Device;
+use cells::Layout;
+use console::read_text;
+use device::{CellDevice, Device};
 use rules::Pins;
 use sheet::Sheet;
-use std::io::Read;
-use trace::{lines, pins_at};
+use trace::lines;
 
 #[derive(Drop)]
 pub struct Clocks {
@@ -13,26 +14,13 @@ pub struct Clocks {
 
 // The clocks of the trace on standard input.
 pub fn read_clocks(rt: &HostRuntime) -> anyhow::Result<Clocks> {
-    let mut text = Vec::new(rt.alloc());
-    let mut input = rt.stdin();
-    input.read_to_end(&mut text)?;
-    let trace = match lines(text.as_slice()) {
-        Ok(trace) => trace,
-        Err(_) => return Err(anyhow!("the trace is refused")),
+    let text = read_text(rt)?;
+    let Ok(trace) = lines(text.as_slice()) else {
+        return Err(anyhow!("the trace is refused"));
     };
-    let mut pins = Vec::new(rt.alloc());
-    let start = trace.body;
-    let count = trace.clocks;
-    if start <= text.len() {
-        for k in 0..count {
-            if let Some(p) = pins_at(&text.as_slice()[start..], k) {
-                pins.push(p)?;
-            }
-        }
-    }
     Ok(Clocks {
         sheet: trace.sheet,
-        pins,
+        pins: trace.clocks().collect(rt.alloc())?,
     })
 }
 
@@ -49,11 +37,17 @@ fn play<D: Device>(device: &mut D, pins: &[Pins]) -> u32
 }
 
 // Each round begins with switch-on.
-pub fn play_rounds<D: Device>(device: &mut D, pins: &[Pins], rounds: u32) -> u32 {
+fn play_rounds<D: Device>(device: &mut D, pins: &[Pins], rounds: u32) -> u32 {
     let mut sum = 0u32;
     for _ in 0..rounds {
         device.switch_on();
         sum ^= play(device, pins);
     }
     sum
+}
+
+// The sum over all that a device drives in these rounds.
+pub fn sum_on<L: Layout>(memory: &mut [L::Cell], clocks: &Clocks, rounds: u32) -> u32 {
+    let mut device: CellDevice<'_, L> = CellDevice::new(memory, clocks.sheet);
+    play_rounds(&mut device, clocks.pins.as_slice(), rounds)
 }

@@ -1,6 +1,6 @@
 -- The fields of the sheet line, one field on.
-use Rattle.std.proofs.Common.{◌≡◌, ℕ, suc, ◌+◌, ◌-◌, ◌<◌, ◌≤◌, List, [], ◌∷◌, ◌++◌, length, take, drop, set, Some, None, Option, refl, add-zero, add_assoc, zero-add, arith}
-use Rattle.std.proofs.lemmas.List.{append_assoc, append-nil, length-set, take_all, take_more_set, take_rest, drop-drop}
+use Rattle.std.proofs.Common.{◌≡◌, ℕ, suc, ◌+◌, ◌-◌, ◌<◌, List, [], ◌∷◌, ◌++◌, length, take, drop, set, Some, None, Option, refl, add_assoc, zero-add, arith}
+use Rattle.std.proofs.lemmas.List.{append_assoc, length-set, take_more_set, take_rest, drop-drop}
 use Rattle.trace.specs.Digits.{if_some}
 use Rattle.trace.specs.Opening.{end_before, field_of, fields_of}
 
@@ -28,12 +28,6 @@ fields_none text xs i n k end l e f =
     let a : length xs - i ≡ suc k = omega arith in
     let g : None ≡ field_of (end_before k) (drop n text) = rw (← e, ← take_rest text n) f in
     rw (a, ← g) refl
-
-pub fields_all : (text xs : List ℕ) (i n : ℕ) → i ≡ length xs → after (take i xs) n (fields_of (length xs - i) (drop n text)) ≡ Some (xs, n)
-fields_all text xs i n e =
-    let a : length xs - i ≡ 0 = omega arith in
-    let b : length xs ≤ i = omega arith in
-    rw (a, take_all i xs b, append-nil xs, add-zero n) refl
 
 pub after_none : (more : Option (List ℕ × ℕ)) → after [] 0 more ≡ more
 after_none None = refl

@@ -1,6 +1,6 @@
 pub mod Numbers
 pub mod Fields
-pub mod Opened
 pub mod Pieces
-pub mod Clocks
+pub mod Nth
+pub mod Left
 pub mod Whole

@@ -1,15 +1,22 @@
--- The pieces of a body, one by one.
-use Rattle.std.proofs.Common.{◌≡◌, ℕ, suc, ◌+◌, ◌/◌, ◌<◌, ◌≤◌, min, true, false, List, [], ◌∷◌, ◌++◌, length, take, drop, is_some, Some, None, Ok, Err, Option, sym, refl, ap, ◌∙◌, inl, inr, add-zero, zero-add, arith}
+-- The pieces of a body, and the first that is ill-formed.
+use Rattle.std.proofs.Common.{◌≡◌, ℕ, suc, ◌+◌, ◌/◌, ◌<◌, ◌≤◌, min, Bool, cond, List, [], ◌∷◌, ◌++◌, length, take, drop, is_none, Some, None, Ok, Err, Option, sym, refl, ap, ◌∙◌, inl, inr, arith}
+use Rattle.std.specs.List.{position_from}
+use Rattle.std.specs.Slice.Iter.{chunks_rest, chunks_size, chunks_steps}
+use Rattle.std.specs.declared.slice.Chunks.{Chunks}
+use Rattle.std.specs.Borrow.{Bor}
 use Rattle.std.proofs.lemmas.List.{length-append, append-nil, take_at, take_all, drop_at, drop_all, nil_from_length}
-use Rattle.std.proofs.lemmas.Bool.{cases_lt, true≢false}
+use Rattle.std.proofs.lemmas.Bool.{cases_lt}
+use Rattle.std.proofs.lemmas.Iterator.{YieldsList}
+use Rattle.std.proofs.lemmas.Iterator.Splits.{YieldsList-from_shown_while}
 use Rattle.rules.specs.declared.pins.Pins.{Pins}
 use Rattle.trace.specs.declared.refusal.Refusal.TheVariants.{IllFormedLine}
 use Rattle.trace.specs.Answer.{Reply, answer, on}
 use Rattle.trace.specs.Clock.{pins_of}
-use Rattle.trace.specs.Body.{pieces, joined, read, listed}
+use Rattle.trace.specs.Body.{pieces, joined, read, listed, clocks, clocks_of}
+use Rattle.trace.proofs.Left.{clock_bytes}
 
 -- a piece, and the bytes behind it
-pub pieces_more : (bs line rest : List ℕ) → bs ≡ line ++ rest → length line ≡ min 21 (length bs) → 0 < length bs → pieces bs ≡ line ∷ pieces rest
+pieces_more : (bs line rest : List ℕ) → bs ≡ line ++ rest → length line ≡ min 21 (length bs) → 0 < length bs → pieces bs ≡ line ∷ pieces rest
 pieces_more bs line rest e l some =
     let all : length bs ≡ length line + length rest = ap length e ∙ length-append line rest in
     let k : (length bs + 20) / 21 ≡ suc ((length rest + 20) / 21) = omega (arith, l) in
@@ -27,41 +34,48 @@ pieces_more bs line rest e l some =
           rw (k, t, d) refl
     ]
 
--- the count of the lines, those of r behind the first c
-abbrev pub counted : ℕ → Reply (List Pins) → Reply ℕ
-counted c r = on (λ k. c + k) (on length r)
+-- the pieces that `chunks` gives
+pub chunked : (s : Chunks ℕ) → chunks_size s ≡ 21 → YieldsList (chunks_steps {A = ℕ}) (λ x. x.now) s (pieces (chunks_rest s))
+chunked s size = YieldsList-from_shown_while chunks_steps (λ (x : Bor (List ℕ)). x.now) (λ t. pieces (chunks_rest t)) (λ t. chunks_size t ≡ 21)
+    (λ u t k h. rw (nil_from_length (chunks_rest u) h.1.0) refl)
+    (λ u x t k h. (h.0 ∙ k, pieces_more (chunks_rest u) x.now (chunks_rest t) h.1.0 (h.1.1 ∙ ap (λ (n : ℕ). min n (length (chunks_rest u))) k) h.1.2))
+    s size
 
-pub counted_none : (r : Reply (List Pins)) → counted 0 r ≡ on length r
-counted_none (Ok ps) = rw (zero-add (length ps)) refl
-counted_none (Err e) = refl
+-- whether a line is ill-formed
+abbrev pub ill : List ℕ → Bool
+ill line = is_none (pins_of line)
 
-well : (c n : ℕ) (o : Option Pins) (r : Reply (List Pins)) → is_some o ≡ true → counted c (joined n o r) ≡ counted (c + 1) r
-well c n None r h = absurd (true≢false (sym h))
-well c n (Some p) (Ok ps) h = let e : c + suc (length ps) ≡ c + 1 + length ps = omega arith in rw e refl
-well c n (Some p) (Err e) h = refl
+-- how many lines there are, or the first of them that is ill-formed, by its place among them
+abbrev pub seen : ℕ → Option ℕ → Reply ℕ
+seen all None = Ok all
+seen all (Some k) = Err (answer (IllFormedLine (k + 2)))
 
-ill : (c n : ℕ) (o : Option Pins) (r : Reply (List Pins)) → is_some o ≡ false → counted c (joined n o r) ≡ Err (answer (IllFormedLine n))
-ill c n None r h = refl
-ill c n (Some p) r h = absurd (true≢false h)
+one : (p : Pins) (all : ℕ) (o : Option ℕ) (r : Reply (List Pins)) → on length r ≡ seen all o → on length (on (λ ps. p ∷ ps) r) ≡ seen (suc all) o
+one p all None (Ok ps) e = let l : length ps ≡ all = cc in ap (λ (n : ℕ). Ok (suc n)) l
+one p all None (Err x) e = cc
+one p all (Some k) (Ok ps) e = cc
+one p all (Some k) (Err x) e = e
 
--- fewer bytes are left
-pub read_less : (c n m : ℕ) (bs line rest : List ℕ) → n ≡ 21 → (bs ≡ line ++ rest) × (length line ≡ min n (length bs)) × (0 < length bs) → c + length bs ≤ m → c + 1 + length rest ≤ m
-read_less c n m bs line rest e s h = omega (arith, ap length s.0 ∙ length-append line rest, s.1, s.2)
+step : (i : ℕ) (o : Option Pins) (all : ℕ) (more : Option ℕ) (r : Reply (List Pins)) → on length r ≡ seen all more → on length (joined (i + 2) o r) ≡ seen (suc all) (cond (is_none o) (Some i) more)
+step i None all more r e = refl
+step i (Some p) all more r e = one p all more r e
 
--- one line on, where the pieces have n bytes
-pub read_more : (c n : ℕ) (bs line rest : List ℕ) (o : Option Pins) → n ≡ 21 → (bs ≡ line ++ rest) × (length line ≡ min n (length bs)) × (0 < length bs) → o ≡ pins_of line → is_some o ≡ true → counted c (read (c + 2) (pieces bs)) ≡ counted (c + 1) (read (c + 1 + 2) (pieces rest))
-read_more c n bs line rest o e s p h =
-    let m : c + 2 + 1 ≡ c + 1 + 2 = omega arith in
-    rw (pieces_more bs line rest s.0 (rw (← e) s.1) s.2, ← p, ← m) (well c (c + 2) o (read (c + 2 + 1) (pieces rest)) h)
+read_seen : (i : ℕ) (lines : List (List ℕ)) → on length (read (i + 2) lines) ≡ seen (length lines) (position_from ill i lines)
+read_seen i [] = refl
+read_seen i (line ∷ more) =
+    let e : i + 1 + 2 ≡ i + 2 + 1 = omega arith in
+    step i (pins_of line) (length more) (position_from ill (i + 1) more) (read (i + 2 + 1) more) (rw (← e) (read_seen (i + 1) more))
 
-pub read_ill : (c n : ℕ) (bs line rest : List ℕ) (o : Option Pins) → n ≡ 21 → (bs ≡ line ++ rest) × (length line ≡ min n (length bs)) × (0 < length bs) → o ≡ pins_of line → is_some o ≡ false → counted c (read (c + 2) (pieces bs)) ≡ Err (answer (IllFormedLine (c + 2)))
-read_ill c n bs line rest o e s p h =
-    rw (pieces_more bs line rest s.0 (rw (← e) s.1) s.2, ← p) (ill c (c + 2) o (read (c + 2 + 1) (pieces rest)) h)
+pub clocks_seen : (bs : List ℕ) → on length (clocks_of bs) ≡ seen (length (pieces bs)) (position_from ill 0 (pieces bs))
+clocks_seen bs = read_seen 0 (pieces bs)
 
-pub read_all : (c : ℕ) (bs : List ℕ) → length bs ≡ 0 → counted c (read (c + 2) (pieces bs)) ≡ Ok c
-read_all c bs none = rw (nil_from_length bs none, add-zero c) refl
+whole : (n : ℕ) (r : Reply (List Pins)) → on length r ≡ Ok n → r ≡ Ok (listed r)
+whole n (Ok ps) e = refl
+whole n (Err x) e = cc
 
 -- a body whose lines are counted is well-formed
-pub counted_all : (n : ℕ) (r : Reply (List Pins)) → Ok n ≡ on length r → (r ≡ Ok (listed r)) × (length (listed r) ≡ n)
-counted_all n (Ok ps) e = (refl, cc)
-counted_all n (Err x) e = let z : ◌≡◌ {A = ℕ} 0 1 = cc in absurd (omega arith)
+pub whole_body : (bs : List ℕ) (n : ℕ) → on length (clocks_of bs) ≡ Ok n → (clocks_of bs ≡ Ok (clocks bs)) × (length (clocks bs) ≡ length bs / 21) × (Ok (length bs / 21) ≡ on length (clocks_of bs))
+whole_body bs n e =
+    let r : clocks_of bs ≡ Ok (clocks bs) = whole n (clocks_of bs) e in
+    let l : length (clocks bs) ≡ length bs / 21 = omega (arith, clock_bytes bs (clocks bs) r) in
+    (r, l, sym (ap (on length) r ∙ ap Ok l))

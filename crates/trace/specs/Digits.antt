@@ -1,5 +1,6 @@
 -- Digits, and the numbers that they write.
-use Rattle.std.specs.Prelude.{ℕ, ◌+◌, ◌-◌, ◌*◌, cond, not, ◌&&◌, ◌||◌, List, [], ◌∷◌, length, Some, None, Option, ◌==◌, nat_le, nat_lt, slice_index}
+use Rattle.std.specs.Prelude.{ℕ, zero, suc, ◌+◌, ◌-◌, ◌*◌, ◌/◌, ◌%◌, true, cond, not, ◌&&◌, ◌||◌, List, [], ◌∷◌, ◌++◌, length, Some, None, Option, ◌==◌, nat_le, nat_lt, slice_index}
+use Rattle.std.specs.Fmt.{digit_glyph}
 
 -- what f answers to a value, if there is one
 abbrev pub if_some : {X Y : Type 0} → Option X → (X → Option Y) → Option Y
@@ -22,3 +23,8 @@ number_of base bs = number_after base 0 bs
 abbrev pub decimal_of : List ℕ → Option ℕ
 decimal_of bs =
     cond (nat_le 1 (length bs) && nat_le (length bs) 10 && (nat_le (length bs) 1 || not (slice_index bs 0 == 48))) (number_of 10 bs) None
+
+-- the last n hexadecimal digits of a number
+abbrev pub hex : ℕ → ℕ → List ℕ
+hex zero v = []
+hex (suc n) v = hex n (v / 16) ++ (digit_glyph true (v % 16) ∷ [])

@@ -1,8 +1,8 @@
 -- The sheet line: decimals parted by tabs and ended by LF, as many as a sheet has fields.
-use Rattle.std.specs.Prelude.{ℕ, zero, suc, ◌+◌, Bool, cond, not, ◌&&◌, ◌||◌, List, [], ◌∷◌, length, take, drop, Some, None, Ok, Err, Option, ◌==◌, nat_lt, slice_index}
+use Rattle.std.specs.Prelude.{◌≡◌, ℕ, zero, suc, ◌+◌, ◌-◌, Bool, cond, not, ◌&&◌, ◌||◌, List, [], ◌∷◌, length, take, drop, Some, None, Ok, Err, Option, ◌==◌, nat_lt, slice_index}
 use Rattle.std.specs.List.{prefix_len}
 use Rattle.sheet.specs.Admit.{numbers, ranges, verdict}
-use Rattle.trace.specs.declared.opening.Opening.{Opening}
+use Rattle.trace.specs.declared.text.Opening.{Opening}
 use Rattle.trace.specs.declared.refusal.Refusal.TheVariants.{TextTooLong, NoSheet}
 use Rattle.trace.specs.Answer.{Reply, answer, on}
 use Rattle.trace.specs.Digits.{if_some, decimal_of}
@@ -55,5 +55,12 @@ opened (Some line) = on (λ xs. (xs, line.1)) (admitted line.0)
 abbrev pub heading_of : List ℕ → Reply (List ℕ × ℕ)
 heading_of bs = cond (nat_lt limit (length bs)) (Err (answer TextTooLong)) (opened (sheet_line bs))
 
-abbrev pub headed : Opening → List ℕ × ℕ
-headed h = (numbers h.sheet, h.body)
+-- where the end of a text begins
+abbrev pub start_of : List ℕ → List ℕ → ℕ
+start_of bs end = length bs - length end
+
+abbrev pub IsEnd : List ℕ → List ℕ → Type 0
+IsEnd bs end = end ≡ drop (start_of bs end) bs
+
+abbrev pub headed : List ℕ → Opening → List ℕ × ℕ
+headed bs h = (numbers h.sheet, start_of bs h.body.now)

@@ -5,26 +5,22 @@ ghost use Rattle.trace.specs.Answer.{told, on};
 ghost use Rattle.trace.specs.Clock.{pins_of};
 ghost use Rattle.trace.specs.Body.{piece, clocks, clocks_of};
 
-use crate::clock::clock_line;
+use crate::clock::{LINE, clock_line};
 use crate::refusal::Refusal;
 use rules::Pins;
-
-// How many bytes a clock line has.
-const LINE: usize = 21;
 
 // How many clock lines the text behind the sheet line has, or the first that is ill-formed.
 pub fn clock_lines(body: &[u8]) -> Result<usize, Refusal>
     ensures value { told (λ n. n) result ≡ on length (clocks_of body.now) }
     ensures listed { IfOk result (λ n. (clocks_of body.now ≡ Ok (clocks body.now)) × (length (clocks body.now) ≡ n)) }
 {
-    let mut count = 0;
-    for line in body.chunks(LINE) {
-        if clock_line(line).is_none() {
-            return Err(Refusal::IllFormedLine(count + 2));
-        }
-        count += 1;
+    let ill_formed = body
+        .chunks(LINE)
+        .position(|line| clock_line(line).is_none());
+    match ill_formed {
+        Some(clock) => Err(Refusal::IllFormedLine(clock + 2)),
+        None => Ok(body.len() / LINE),
     }
-    Ok(count)
 }
 
 // The pins at a clock, counted from 0, of the text behind the sheet line. If all its lines are well-formed, these are

@@ -4,6 +4,10 @@ ghost use Rattle.trace.specs.Clock.{level, pins_of};
 use crate::digits::number;
 use rules::{Level, Pins};
 
+// How many bytes a clock line has.
+pub const LINE: usize = 21;
+
+// A `TryFrom` would stand with `Level`, in a crate that knows no text.
 fn level_of(byte: u8) -> Option<Level>
     ensures { result ≡ level byte }
 {

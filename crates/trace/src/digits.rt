@@ -12,7 +12,8 @@ fn digit(byte: u8) -> Option<u8>
     }
 }
 
-// The number that the digits write in a base of at most 16, if each is a digit of that base.
+// The number that the digits write in a base of at most 16, if each is a digit of that base. The `from_str_radix` of std
+// would take a sign and small letters too.
 pub fn number(base: u8, digits: &[u8]) -> Option<u64>
     requires small { base ≤ 16 }
     requires short { length digits.now ≤ 10 }

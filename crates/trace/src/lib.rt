@@ -3,13 +3,17 @@
 
 mod body;
 mod clock;
+mod clocks;
 mod digits;
 mod opening;
+mod reading;
 mod refusal;
 mod text;
 
 pub use body::{clock_lines, pins_at};
 pub use clock::clock_line;
-pub use opening::{LIMIT, Opening, heading};
+pub use clocks::Clocks;
+pub use opening::{LIMIT, heading};
+pub use reading::lines;
 pub use refusal::Refusal;
-pub use text::{Trace, lines};
+pub use text::{Opening, Trace};

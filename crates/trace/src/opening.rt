@@ -1,20 +1,14 @@
 ghost use Rattle.std.specs.Prelude.{◌≡◌, ◌≤◌, length, IfSome, IfOk};
 ghost use Rattle.trace.specs.Answer.{told};
-ghost use Rattle.trace.specs.Opening.{mark, before_mark, end_before, field_of, sheet_line, heading_of, headed};
+ghost use Rattle.trace.specs.Opening.{mark, before_mark, end_before, field_of, sheet_line, heading_of, headed, IsEnd};
 
 use crate::digits::decimal;
 use crate::refusal::Refusal;
+use crate::text::Opening;
 use sheet::{FIELDS, Sheet};
 
 // The most bytes that a trace may have.
 pub const LIMIT: usize = 65536;
-
-// A trace's sheet, and where in the text its clock lines begin.
-#[derive(Clone, Copy)]
-pub struct Opening {
-    pub sheet: Sheet,
-    pub body: usize,
-}
 
 // Whether a byte ends a field.
 fn ends_field(byte: u8) -> bool
@@ -27,12 +21,9 @@ fn ends_field(byte: u8) -> bool
 fn field_width(text: &[u8]) -> usize
     ensures { result ≡ before_mark text.now }
 {
-    for (i, b) in text.iter().enumerate() {
-        if ends_field(*b) {
-            return i;
-        }
-    }
-    text.len()
+    text.iter()
+        .position(|b| ends_field(*b))
+        .unwrap_or(text.len())
 }
 
 // The byte behind a field when so many more follow: a tab, or LF at the last.
@@ -62,19 +53,19 @@ fn sheet_line(text: &[u8]) -> Option<([u64; FIELDS], usize)>
 {
     let mut fields = [0; FIELDS];
     let mut read = 0;
-    for i in 0..FIELDS {
+    for (i, place) in fields.iter_mut().enumerate() {
         let (value, width) = field(&text[read..], end_before(FIELDS - 1 - i))?;
-        fields[i] = value;
+        *place = value;
         read += width;
     }
     Some((fields, read))
 }
 
-// The text's sheet and where its clock lines begin, or the first of these reasons against it: it is too long, it has no
+// The text's sheet and the text behind its line, or the first of these reasons against it: it is too long, it has no
 // sheet line, a field is out of range, ret is too small.
-pub fn heading(text: &[u8]) -> Result<Opening, Refusal>
-    ensures value { told headed result ≡ heading_of text.now }
-    ensures within { IfOk result (λ h. h.body ≤ length text.now) }
+pub fn heading(text: &[u8]) -> Result<Opening<'_>, Refusal>
+    ensures value { told (headed text.now) result ≡ heading_of text.now }
+    ensures end { IfOk result (λ h. IsEnd text.now h.body.now) }
 {
     if text.len() > LIMIT {
         return Err(Refusal::TextTooLong);
@@ -82,7 +73,10 @@ pub fn heading(text: &[u8]) -> Result<Opening, Refusal>
     let Some(line) = sheet_line(text) else {
         return Err(Refusal::NoSheet);
     };
-    let (fields, body) = line;
+    let (fields, width) = line;
     let sheet = Sheet::admit(fields)?;
-    Ok(Opening { sheet, body })
+    Ok(Opening {
+        sheet,
+        body: &text[width..],
+    })
 }

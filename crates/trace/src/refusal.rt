@@ -1,9 +1,10 @@
-ghost use Rattle.std.specs.Prelude.{◌≡◌};
+ghost use Rattle.std.specs.Prelude.{◌≡◌, Some};
 ghost use Rattle.std.specs.Option.{option_to_list};
 ghost use Rattle.sheet.specs.Admit.{refusal};
-ghost use Rattle.trace.specs.Answer.{answer};
+ghost use Rattle.trace.specs.Answer.{answer, printed};
 
-use sheet::SheetError;
+use sheet::{Field, SheetError};
+use std::fmt;
 
 // Why a text is not judged, in the order in which the reasons are sought.
 #[derive(Clone, Copy, PartialEq, Eq, Debug)]
@@ -12,8 +13,8 @@ pub enum Refusal {
     TextTooLong,
     // the text does not begin with a well-formed sheet line
     NoSheet,
-    // the place, from 1, of the sheet's first field out of range
-    FieldOutOfRange(u8),
+    // the sheet's first field out of range
+    FieldOutOfRange(Field),
     // ret is too small for the sheet's n
     RoundTooLong,
     // the memory handed in is too short for the sheet's rows
@@ -25,7 +26,7 @@ pub enum Refusal {
 }
 
 impl Refusal {
-    // The number under which the refusal is reported.
+    // The number under which the refusal is reported. By name and no `From`: a bare conversion would not say which number.
     pub fn number(self) -> u8
         ensures { result ≡ (answer self).0 }
     {
@@ -45,7 +46,7 @@ impl Refusal {
         ensures { option_to_list result ≡ (answer self).1 }
     {
         match self {
-            Refusal::FieldOutOfRange(place) => Some(usize::from(place)),
+            Refusal::FieldOutOfRange(field) => Some(usize::from(field.place())),
             Refusal::IllFormedLine(line) => Some(line),
             Refusal::TextTooLong
             | Refusal::NoSheet
@@ -61,8 +62,21 @@ impl From<SheetError> for Refusal {
 
     fn from(error: SheetError) -> Refusal {
         match error {
-            SheetError::OutOfRange(place) => Refusal::FieldOutOfRange(place),
+            SheetError::OutOfRange(field) => Refusal::FieldOutOfRange(field),
             SheetError::RoundTooLong => Refusal::RoundTooLong,
+        }
+    }
+}
+
+// The number, and behind a tab the place or line, where there is one.
+impl fmt::Display for Refusal {
+    ghost output = { λ e. Some (printed (answer e)) };
+
+    fn fmt<W: fmt::Write>(&self, f: &mut fmt::Formatter<W>) -> fmt::Result {
+        let number = self.number();
+        match self.place() {
+            Some(place) => write!(f, "{number}\t{place}"),
+            None => write!(f, "{number}"),
         }
     }
 }

@@ -1,30 +1,32 @@
-ghost use Rattle.std.specs.Prelude.{◌≡◌, Err, MatchResult};
-ghost use Rattle.trace.specs.Answer.{answer, told};
-ghost use Rattle.trace.specs.Text.{lines_of, trace_of, traced, Well};
+ghost use Rattle.std.specs.Prelude.{◌≡◌, ◌≤◌, length, Ok};
+ghost use Rattle.trace.specs.Body.{clocks, clocks_of};
 
-use crate::body::clock_lines;
-use crate::opening::{Opening, heading};
-use crate::refusal::Refusal;
+use crate::clocks::Clocks;
 use sheet::Sheet;
 
-// What a well-formed text has: its sheet, where its clock lines begin, and how many there are.
+// A text's sheet, and the text behind its line, which is no longer than a trace may be.
 #[derive(Clone, Copy)]
-pub struct Trace {
+pub struct Opening<'a> {
     pub sheet: Sheet,
-    pub body: usize,
-    pub clocks: usize,
+    pub body: &'a [u8],
+    ghost short: { length body.now ≤ 65536 },
 }
 
-// Reads a text, or says the first reason against it: those of its heading, then a clock line that is ill-formed.
-pub fn lines(text: &[u8]) -> Result<Trace, Refusal>
-    ensures value { told traced result ≡ lines_of text.now }
-    ensures well { MatchResult result (Well text.now) (λ e. trace_of text.now ≡ Err (answer e)) }
-{
-    let Opening { sheet, body } = heading(text)?;
-    let clocks = clock_lines(&text[body..])?;
-    Ok(Trace {
-        sheet,
-        body,
-        clocks,
-    })
+// A well-formed text: its sheet, and the lines of its clocks behind it.
+#[derive(Clone, Copy)]
+pub struct Trace<'a> {
+    pub sheet: Sheet,
+    pub body: &'a [u8],
+    ghost short: { length body.now ≤ 65536 },
+    ghost read: { clocks_of body.now ≡ Ok (clocks body.now) },
+}
+
+impl<'a> Trace<'a> {
+    // The clocks, in their order.
+    pub fn clocks(&self) -> Clocks<'a>
+        ensures value { result ≡ clocks self.now.body.now }
+        ensures few { length result ≤ 3120 }
+    {
+        Clocks { rest: self.body }
+    }
 }

@@ -18,13 +18,13 @@ pub refused : (text : List ℕ) (p o : ℕ) (e : Refusal) (planes out : List ℕ
 refused text p o e planes out f = rw f.case (refl, refl, refl)
 
 pub spoken : (text : List ℕ) (p o : ℕ) (t : Trace) (planes planes' out out' : List ℕ) (r : ℕ) → Fit text p o t
-    → Wrote out 0 (page (start t.sheet) (clocks (drop t.body text))) out' r
-    → planes' ≡ picture t.sheet.rows (run (start t.sheet) (clocks (drop t.body text))).cells ++ drop (2048 * t.sheet.rows) planes
+    → Wrote out 0 (page (start t.sheet) (clocks t.body.now)) out' r
+    → planes' ≡ picture t.sheet.rows (run (start t.sheet) (clocks t.body.now)).cells ++ drop (2048 * t.sheet.rows) planes
     → (Ok r ≡ written (judged text p o)) × (planes' ≡ planes_after (judged text p o) planes) × (out' ≡ output_after (judged text p o) out)
 spoken text p o t planes planes' out out' r f w e =
     let all = wrote_all w in
-    let m : Meaning = run (start t.sheet) (clocks (drop t.body text)) in
-    let rows : t.sheet.rows ≡ m.state.sheet.rows = sym (ap (λ (x : Sheet). x.rows) (run_sheet (start t.sheet) (clocks (drop t.body text)))) in
+    let m : Meaning = run (start t.sheet) (clocks t.body.now) in
+    let rows : t.sheet.rows ≡ m.state.sheet.rows = sym (ap (λ (x : Sheet). x.rows) (run_sheet (start t.sheet) (clocks t.body.now))) in
     rw f.case (
       ap Ok all.0,
       e ∙ ap (λ (n : ℕ). picture n m.cells ++ drop (2048 * n) planes) rows,

@@ -1,9 +1,8 @@
 -- The last line of the output.
-use Rattle.std.proofs.Common.{◌≡◌, ℕ, ◌+◌, ◌%◌, ◌^◌, ◌<◌, Bool, true, false, ◌||◌, eqb, List, [], ◌∷◌, ◌++◌, get_or, decimal, sym, refl, ap, ◌∙◌, append_assoc, arith}
+use Rattle.std.proofs.Common.{Some, None, Option, ◌≡◌, ℕ, ◌+◌, ◌%◌, ◌^◌, ◌<◌, Bool, true, false, ◌||◌, eqb, List, [], ◌∷◌, ◌++◌, get_or, decimal, sym, refl, ap, ◌∙◌, append_assoc, arith}
 use Rattle.std.proofs.lemmas.Fmt.{decimal_by_steps}
 use Rattle.std.proofs.lemmas.Bool.{ne_eqb}
-use Rattle.rules.specs.declared.state.Row.{Row}
-use Rattle.rules.specs.declared.state.Row.TheVariants.{Idle, Active}
+use Rattle.rules.specs.declared.state.OpenRow.{OpenRow}
 use Rattle.verdict.specs.Page.{kind, bank_line, ok_line, fault_line}
 use Rattle.verdict.specs.Stands.{breaks, last_line}
 
@@ -56,14 +55,14 @@ fault_last xs k t h l =
     last_at xs 102 (97 ∷ (117 ∷ (108 ∷ (116 ∷ (9 ∷ (decimal k ++ (9 ∷ (decimal t ++ (10 ∷ []))))))))) (rw (sym same) free)
 
 -- a bank's line ends in its LF
-bank_front : (name : ℕ) (r : Row) → (xs : List ℕ) × (bank_line name r ≡ xs ++ (10 ∷ []))
-bank_front name Idle = (name ∷ (9 ∷ (105 ∷ (100 ∷ (108 ∷ (101 ∷ []))))), refl)
-bank_front name (Active row masked) = (
-  name ∷ (9 ∷ (97 ∷ (99 ∷ (116 ∷ (105 ∷ (118 ∷ (101 ∷ (9 ∷ (decimal row ++ (9 ∷ kind masked)))))))))),
-  ap (λ (x : List ℕ). name ∷ (9 ∷ (97 ∷ (99 ∷ (116 ∷ (105 ∷ (118 ∷ (101 ∷ (9 ∷ x))))))))) (sym (append_assoc (decimal row) (9 ∷ kind masked) (10 ∷ []))),
+bank_front : (name : ℕ) (r : Option OpenRow) → (xs : List ℕ) × (bank_line name r ≡ xs ++ (10 ∷ []))
+bank_front name None = (name ∷ (9 ∷ (105 ∷ (100 ∷ (108 ∷ (101 ∷ []))))), refl)
+bank_front name (Some r) = (
+  name ∷ (9 ∷ (97 ∷ (99 ∷ (116 ∷ (105 ∷ (118 ∷ (101 ∷ (9 ∷ (decimal r.row ++ (9 ∷ kind r.masked)))))))))),
+  ap (λ (x : List ℕ). name ∷ (9 ∷ (97 ∷ (99 ∷ (116 ∷ (105 ∷ (118 ∷ (101 ∷ (9 ∷ x))))))))) (sym (append_assoc (decimal r.row) (9 ∷ kind r.masked) (10 ∷ []))),
 )
 
-pub behind_bank : (xs line : List ℕ) (name : ℕ) (r : Row) → (ys : List ℕ) × (xs ++ (bank_line name r ++ line) ≡ ys ++ (10 ∷ line))
+pub behind_bank : (xs line : List ℕ) (name : ℕ) (r : Option OpenRow) → (ys : List ℕ) × (xs ++ (bank_line name r ++ line) ≡ ys ++ (10 ∷ line))
 behind_bank xs line name r =
     let f = bank_front name r in
     (xs ++ f.0, ap (λ (b : List ℕ). xs ++ (b ++ line)) f.1 ∙ ap (λ (b : List ℕ). xs ++ b) (append_assoc f.0 (10 ∷ []) line) ∙ sym (append_assoc xs f.0 (10 ∷ line)))

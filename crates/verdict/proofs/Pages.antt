@@ -2,7 +2,7 @@
 use Rattle.std.proofs.Common.{◌≡◌, ℕ, ◌+◌, ◌<◌, List, ◌∷◌, ◌++◌, length, IfSome, Some, None, Option, sym, ap, ◌∙◌, arith, length-append}
 use Rattle.rules.specs.declared.pins.Pins.{Pins}
 use Rattle.rules.specs.declared.fault.Fault.{Fault}
-use Rattle.rules.specs.declared.state.Row.{Row}
+use Rattle.rules.specs.declared.state.OpenRow.{OpenRow}
 use Rattle.rules.specs.Meaning.{Meaning, run, outs}
 use Rattle.rules.specs.Laws.{Broken}
 use Rattle.rules.proofs.Runs.{first_fault}
@@ -18,7 +18,7 @@ fault_early m ps (Some x) sound zeroth few e =
     omega (arith, b.clock, long)
 
 -- the parts of the page, n being the device at the end
-pub page_made : (m n : Meaning) (ps : List Pins) (a b : Row) (count : ℕ) (f : Option Fault) → n ≡ run m ps
+pub page_made : (m n : Meaning) (ps : List Pins) (a b : Option OpenRow) (count : ℕ) (f : Option Fault) → n ≡ run m ps
     → a ≡ n.state.banks.a.row → b ≡ n.state.banks.b.row → length ps ≡ count → f ≡ n.state.fault
     → clocks_text 1 (outs m ps) ++ end_text a b count f ≡ page m ps
 page_made m n ps a b count f e ea eb ec ef =

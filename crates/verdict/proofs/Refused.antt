@@ -2,7 +2,7 @@
 use Rattle.std.proofs.Common.{◌≡◌, ℕ, zero, suc, ◌+◌, ◌/◌, ◌<◌, ◌≤◌, Bool, true, false, cond, eqb, ltb, ◌⊎◌, List, [], ◌∷◌, length, get_or, drop, Some, None, Ok, Err, Option, sym, refl, ap, ◌∙◌, inl, inr, ⊎_elim, arith}
 use Rattle.std.proofs.lemmas.Bool.Decides.{nat_tests}
 use Rattle.sheet.specs.Admit.{ranges, refusal, out_of, checked, verdict}
-use Rattle.sheet.specs.declared.admit.SheetError.TheVariants.{OutOfRange, RoundTooLong}
+use Rattle.sheet.specs.declared.admit.SheetError.TheVariants.{RoundTooLong}
 use Rattle.rules.specs.declared.pins.Pins.{Pins}
 use Rattle.trace.specs.declared.refusal.Refusal.TheVariants.{TextTooLong, NoSheet, IllFormedLine}
 use Rattle.trace.specs.Answer.{Reply, answer, on}
@@ -15,11 +15,11 @@ abbrev pub place : ℕ × List ℕ → ℕ
 place e = get_or e.1 0 0
 
 differ : (e : ℕ × List ℕ) {X : Type 0} (x : X) → Err e ≡ Ok x → ⊥
-differ e x h = let z : ◌≡◌ {A = ℕ} 0 1 = cc in omega arith
+differ e x h = cc
 
 -- a field out of range has its place
 one_checked : (i n : ℕ) (more last : ℕ × List ℕ) (b : Bool) → (place more ≤ suc i + n) ⊎ (more ≡ last)
-    → (place (cond b (refusal (OutOfRange (suc i))) more) ≤ i + suc n) ⊎ (cond b (refusal (OutOfRange (suc i))) more ≡ last)
+    → (place (cond b (1, suc i ∷ []) more) ≤ i + suc n) ⊎ (cond b (1, suc i ∷ []) more ≡ last)
 one_checked i n more last true h = inl (omega arith)
 one_checked i n more last false (inl h) = inl (omega arith)
 one_checked i n more last false (inr h) = inr h

@@ -39,7 +39,7 @@ page_last m ps sound zeroth few =
 
 -- a run without a fault, and clocks that break no rule
 none_some : {X : Type 0} (x : X) → Some x ≡ None → ⊥
-none_some x e = let z : ◌≡◌ {A = ℕ} 0 1 = cc in omega arith
+none_some x e = cc
 
 clean_run : (m : Meaning) (ps : List Pins) → (run m ps).state.fault ≡ None → Clean m ps
 clean_run m ps e before p after parts =
@@ -72,11 +72,11 @@ module _ (m : Meaning) (ps : List Pins) (output : List ℕ) (sound : m.state.fau
 -- what a trace was read from
 on_ok : {X Y : Type 0} (f : X → Y) (r : Reply X) (y : Y) → on f r ≡ Ok y → (x : X) × (r ≡ Ok x) × (f x ≡ y)
 on_ok f (Ok x) y e = (x, refl, cc)
-on_ok f (Err x) y e = let z : ◌≡◌ {A = ℕ} 0 1 = cc in absurd (omega arith)
+on_ok f (Err x) y e = cc
 
 then_ok : {X Y : Type 0} (f : X → Reply Y) (r : Reply X) (y : Y) → then r f ≡ Ok y → (x : X) × (r ≡ Ok x) × (f x ≡ Ok y)
 then_ok f (Ok x) y e = (x, refl, e)
-then_ok f (Err x) y e = let z : ◌≡◌ {A = ℕ} 0 1 = cc in absurd (omega arith)
+then_ok f (Err x) y e = cc
 
 trace_parts : (text ns : List ℕ) (ps : List Pins) → trace_of text ≡ Ok (ns, ps) → (n : ℕ) × (heading_of text ≡ Ok (ns, n)) × (clocks_of (drop n text) ≡ Ok ps)
 trace_parts text ns ps e =

@@ -1,5 +1,5 @@
 -- How much room the numbers take.
-use Rattle.std.proofs.Common.{ℕ, ◌<◌, ◌≤◌, length, decimal, arith, lit<}
+use Rattle.std.proofs.Common.{◌≡◌, ℕ, ◌<◌, ◌≤◌, length, decimal, arith, lit<}
 use Rattle.std.proofs.lemmas.Fmt.{length-decimal-le}
 use Rattle.rules.specs.declared.fault.Rule.{Rule}
 use Rattle.rules.specs.declared.fault.Rule.TheVariants.{CountEnd, Retention, RowTime, PowerUp, Recovery, Operand, Misplaced, Distance, Contention}
@@ -24,3 +24,6 @@ rule_small Operand = lit< tt
 rule_small Misplaced = lit< tt
 rule_small Distance = lit< tt
 rule_small Contention = lit< tt
+
+pub rule_digits : (k : Rule) (n : ℕ) → n ≡ number_of k → length (decimal n) ≤ 2
+rule_digits k n e = two_digits n (omega (arith, rule_small k))

@@ -9,7 +9,7 @@ use Rattle.trace.specs.declared.refusal.Refusal.{Refusal}
 use Rattle.trace.specs.declared.refusal.Refusal.TheVariants.{ShortMemory, ShortOutput}
 use Rattle.trace.specs.declared.text.Trace.{Trace}
 use Rattle.trace.specs.Answer.{Reply, answer, on, then}
-use Rattle.trace.specs.Opening.{heading_of}
+use Rattle.trace.specs.Opening.{IsEnd, heading_of}
 use Rattle.trace.specs.Body.{clocks, clocks_of}
 use Rattle.verdict.specs.Sheets.{sheet_of}
 use Rattle.verdict.specs.Page.{page}
@@ -54,6 +54,10 @@ said k = record { output = page (start k.sheet) k.clocks; meaning = run (start k
 abbrev pub judged : List ℕ → ℕ → ℕ → Reply Said
 judged text planes out = on said (case_of text planes out)
 
+-- with these planes and this output
+abbrev pub judged_in : List ℕ → List ℕ → List ℕ → Reply Said
+judged_in text planes out = judged text (length planes) (length out)
+
 -- both buffers afterwards; a refusal leaves them
 abbrev pub planes_after : Reply Said → List ℕ → List ℕ
 planes_after (Ok s) before =
@@ -71,13 +75,10 @@ written r = on (λ s. length s.output) r
 
 -- what is known of a text that is judged as t
 pub record Fit (text : List ℕ) (planes out : ℕ) (t : Trace) : Type 0 where
-  pub case : case_of text planes out ≡ Ok (record { sheet = t.sheet; clocks = clocks (drop t.body text) })
-  pub within : t.body ≤ length text
-  pub read : clocks_of (drop t.body text) ≡ Ok (clocks (drop t.body text))
-  pub count : length (clocks (drop t.body text)) ≡ t.clocks
-  pub few : t.clocks < 9999
+  pub end : IsEnd text t.body.now
+  pub case : case_of text planes out ≡ Ok (record { sheet = t.sheet; clocks = clocks t.body.now })
   pub rows : planes_for t.sheet.rows ≤ planes
-  pub room : output_for t.clocks ≤ out
+  pub room : output_for (length (clocks t.body.now)) ≤ out
 
 -- and of one that is refused; the place or line is small
 pub record Unfit (text : List ℕ) (planes out : ℕ) (e : Refusal) : Type 0 where

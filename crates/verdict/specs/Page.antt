@@ -1,18 +1,14 @@
 -- What the judge writes of a trace.
-use Rattle.std.specs.Prelude.{ℕ, zero, suc, ◌+◌, ◌/◌, ◌%◌, Bool, true, cond, List, [], ◌∷◌, ◌++◌, length, Some, None, codes, decimal, Option, ◌==◌}
-use Rattle.std.specs.Fmt.{digit_glyph}
+use Rattle.std.specs.Prelude.{ℕ, ◌+◌, Bool, cond, List, [], ◌∷◌, ◌++◌, length, Some, None, codes, decimal, Option, ◌==◌}
 use Rattle.rules.specs.declared.pins.Pins.{Pins}
+use Rattle.rules.specs.declared.pins.BankName.{BankName}
+use Rattle.rules.specs.declared.pins.BankName.TheVariants.{A, B}
 use Rattle.rules.specs.declared.fault.Fault.{Fault}
-use Rattle.rules.specs.declared.state.Row.{Row}
-use Rattle.rules.specs.declared.state.Row.TheVariants.{Idle, Active}
+use Rattle.rules.specs.declared.state.OpenRow.{OpenRow}
 use Rattle.rules.specs.Rule.{number_of}
 use Rattle.rules.specs.State.{State}
 use Rattle.rules.specs.Meaning.{Meaning, run, outs}
-
--- the last n hexadecimal digits of a number
-abbrev pub hex : ℕ → ℕ → List ℕ
-hex zero v = []
-hex (suc n) v = hex n (v / 16) ++ (digit_glyph true (v % 16) ∷ [])
+use Rattle.trace.specs.Digits.{hex}
 
 -- what a clock answered: its number, the driven lanes and the word, parted by tabs and ended by LF
 abbrev pub clock_line : ℕ → ℕ × ℕ → List ℕ
@@ -34,10 +30,15 @@ kind masked = cond masked (codes "masked") (codes "plain")
 abbrev pub active_text : ℕ → Bool → List ℕ
 active_text row masked = codes "\tactive\t" ++ (decimal row ++ (9 ∷ (kind masked ++ (10 ∷ []))))
 
+-- the letter of a bank's name
+abbrev pub letter : BankName → ℕ
+letter A = 65
+letter B = 66
+
 -- a bank, by the letter of its name: idle, or its open row and how it was opened
-abbrev pub bank_line : ℕ → Row → List ℕ
-bank_line name Idle = name ∷ codes "\tidle\n"
-bank_line name (Active row masked) = name ∷ active_text row masked
+abbrev pub bank_line : ℕ → Option OpenRow → List ℕ
+bank_line name None = name ∷ codes "\tidle\n"
+bank_line name (Some r) = name ∷ active_text r.row r.masked
 
 -- the verdict on n clocks
 abbrev pub ok_line : ℕ → List ℕ
@@ -51,7 +52,7 @@ verdict_line n None = ok_line n
 verdict_line n (Some f) = fault_line (number_of f.rule) f.clock
 
 -- the end: banks A and B, and the verdict
-abbrev pub end_text : Row → Row → ℕ → Option Fault → List ℕ
+abbrev pub end_text : Option OpenRow → Option OpenRow → ℕ → Option Fault → List ℕ
 end_text a b n f = bank_line 65 a ++ (bank_line 66 b ++ verdict_line n f)
 
 -- a device after n clocks

@@ -1,11 +1,12 @@
 // The judge for a host in C; the crate `verdict_c` exports it.
-ghost use Rattle.std.specs.Prelude.{◌≡◌, length};
-ghost use Rattle.verdict.specs.Judged.{judged, planes_after, output_after};
+ghost use Rattle.std.specs.Prelude.{◌≡◌};
+ghost use Rattle.verdict.specs.Judged.{judged_in, planes_after, output_after};
 ghost use Rattle.verdict.specs.Plain.{plain};
 
 use crate::judgement::judge;
 use trace::Refusal;
 
+// Plain numbers, for C; they are widened by `as`, as in the lines of the output.
 #[repr(C)]
 #[derive(Clone, Copy)]
 pub struct Verdict {
@@ -19,9 +20,9 @@ pub struct Verdict {
 
 // The same as `judge`, in plain numbers.
 pub fn sgram_judge(text: &[u8], planes: &mut [u8], out: &mut [u8]) -> Verdict
-    ensures answer { result ≡ plain (judged text.now (length planes.old) (length out.old)) }
-    ensures planes { planes.new ≡ planes_after (judged text.now (length planes.old) (length out.old)) planes.old }
-    ensures out { out.new ≡ output_after (judged text.now (length planes.old) (length out.old)) out.old }
+    ensures answer { result ≡ plain (judged_in text.now planes.old out.old) }
+    ensures planes { planes.new ≡ planes_after (judged_in text.now planes.old out.old) planes.old }
+    ensures out { out.new ≡ output_after (judged_in text.now planes.old out.old) out.old }
 {
     match judge(text, planes, out) {
         Ok(written) => Verdict {

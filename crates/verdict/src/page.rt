@@ -1,38 +1,11 @@
-// The lines of the output, each written into a buffer at a place; each function answers where its text ends.
+// The lines of the output. Widenings by `as`: with `From` (tried) each proof of a line has to name the conversion.
 ghost use Rattle.std.specs.Prelude.{◌≡◌, ◌+◌, ◌<◌, ◌≤◌, length, IfSome};
-ghost use Rattle.verdict.specs.Wrote.{Wrote};
-ghost use Rattle.verdict.specs.Page.{clock_line, clock_text, kind, active_text, bank_line, ok_line, fault_line, verdict_line, end_text};
+ghost use Rattle.rules.specs.Rule.{number_of};
+ghost use Rattle.verdict.specs.Wrote.{HasRoom, Writes};
+ghost use Rattle.verdict.specs.Page.{clock_line, clock_text, kind, active_text, letter, bank_line, ok_line, fault_line, verdict_line, end_text};
 
-use crate::writing::{put_byte, put_bytes, put_decimal, put_hex};
-use rules::{Fault, Row};
-
-fn put_clock_line(out: &mut [u8], at: usize, clock: u64, lanes: u8, word: u32) -> usize
-    requires small { clock < 10000 }
-    requires room { at + 16 ≤ length out.old }
-    ensures wrote { Wrote out.old at (clock_line clock (lanes, word)) out.new result }
-    ensures bound { result ≤ at + 16 }
-{
-    let end = put_decimal(out, at, clock);
-    let end = put_byte(out, end, b'\t');
-    let end = put_hex(out, end, 1, lanes as u32);
-    let end = put_byte(out, end, b'\t');
-    let end = put_hex(out, end, 8, word);
-    put_byte(out, end, b'\n')
-}
-
-// What a clock answered; nothing where no lane is driven.
-pub fn put_clock(out: &mut [u8], at: usize, clock: u64, lanes: u8, word: u32) -> usize
-    requires small { clock < 10000 }
-    requires room { at + 16 ≤ length out.old }
-    ensures wrote { Wrote out.old at (clock_text clock (lanes, word)) out.new result }
-    ensures bound { result ≤ at + 16 }
-{
-    if lanes == 0 {
-        at
-    } else {
-        put_clock_line(out, at, clock, lanes, word)
-    }
-}
+use crate::writing::Page;
+use rules::{BankName, Fault, OpenRow};
 
 // How a row was opened.
 fn kind_name(masked: bool) -> &'static [u8]
@@ -42,82 +15,117 @@ fn kind_name(masked: bool) -> &'static [u8]
     if masked { b"masked" } else { b"plain" }
 }
 
-fn put_row(out: &mut [u8], at: usize, row: u16, masked: bool) -> usize
-    requires { at + 21 ≤ length out.old }
-    ensures wrote { Wrote out.old at (active_text row masked) out.new result }
-    ensures bound { result ≤ at + 21 }
+fn letter(bank: BankName) -> u8
+    ensures { result ≡ letter bank }
 {
-    let end = put_bytes(out, at, b"\tactive\t");
-    let end = put_decimal(out, end, row as u64);
-    let end = put_byte(out, end, b'\t');
-    let end = put_bytes(out, end, kind_name(masked));
-    put_byte(out, end, b'\n')
-}
-
-// A bank, by the letter of its name.
-fn put_bank(out: &mut [u8], at: usize, name: u8, row: Row) -> usize
-    requires { at + 22 ≤ length out.old }
-    ensures wrote { Wrote out.old at (bank_line name row) out.new result }
-    ensures bound { result ≤ at + 22 }
-{
-    let end = put_byte(out, at, name);
-    match row {
-        Row::Idle => put_bytes(out, end, b"\tidle\n"),
-        Row::Active { row, masked } => put_row(out, end, row, masked),
+    match bank {
+        BankName::A => b'A',
+        BankName::B => b'B',
     }
 }
 
-fn put_ok(out: &mut [u8], at: usize, clocks: u64) -> usize
-    requires small { clocks < 10000 }
-    requires room { at + 8 ≤ length out.old }
-    ensures { Wrote out.old at (ok_line clocks) out.new result }
-{
-    let end = put_bytes(out, at, b"ok\t");
-    let end = put_decimal(out, end, clocks);
-    put_byte(out, end, b'\n')
-}
-
-fn put_fault(out: &mut [u8], at: usize, number: u8, clock: u64) -> usize
-    requires two { number < 100 }
-    requires small { clock < 10000 }
-    requires room { at + 14 ≤ length out.old }
-    ensures { Wrote out.old at (fault_line number clock) out.new result }
-{
-    let end = put_bytes(out, at, b"fault\t");
-    let end = put_decimal(out, end, number as u64);
-    let end = put_byte(out, end, b'\t');
-    let end = put_decimal(out, end, clock);
-    put_byte(out, end, b'\n')
-}
-
-// The verdict on so many clocks.
-fn put_verdict(out: &mut [u8], at: usize, clocks: u64, fault: Option<Fault>) -> usize
-    requires small { clocks < 10000 }
-    requires early { IfSome fault (λ f. f.clock < 10000) }
-    requires room { at + 14 ≤ length out.old }
-    ensures { Wrote out.old at (verdict_line clocks fault) out.new result }
-{
-    match fault {
-        None => put_ok(out, at, clocks),
-        Some(Fault { rule, clock }) => put_fault(out, at, rule.number(), clock),
+impl<'a> Page<'a> {
+    fn clock_line(&mut self, clock: u64, lanes: u8, word: u32)
+        requires small { clock < 10000 }
+        requires room { HasRoom self.old 16 }
+        ensures writes { Writes self.old (clock_line clock (lanes, word)) self.new }
+        ensures bound { self.new.end ≤ self.old.end + 16 }
+    {
+        self.decimal(clock);
+        self.byte(b'\t');
+        self.hex(1, lanes as u32);
+        self.byte(b'\t');
+        self.hex(8, word);
+        self.byte(b'\n');
     }
-}
 
-// The rows of banks A and B, and the verdict.
-pub fn put_end(
-    out: &mut [u8],
-    at: usize,
-    a: Row,
-    b: Row,
-    clocks: u64,
-    fault: Option<Fault>,
-) -> usize
-    requires small { clocks < 10000 }
-    requires early { IfSome fault (λ f. f.clock < 10000) }
-    requires room { at + 64 ≤ length out.old }
-    ensures { Wrote out.old at (end_text a b clocks fault) out.new result }
-{
-    let end = put_bank(out, at, b'A', a);
-    let end = put_bank(out, end, b'B', b);
-    put_verdict(out, end, clocks, fault)
+    // What a clock answered; nothing where no lane is driven.
+    pub fn clock(&mut self, clock: u64, lanes: u8, word: u32)
+        requires small { clock < 10000 }
+        requires room { HasRoom self.old 16 }
+        ensures writes { Writes self.old (clock_text clock (lanes, word)) self.new }
+        ensures bound { self.new.end ≤ self.old.end + 16 }
+    {
+        if lanes != 0 {
+            self.clock_line(clock, lanes, word);
+        }
+    }
+
+    fn row(&mut self, row: u16, masked: bool)
+        requires { HasRoom self.old 21 }
+        ensures writes { Writes self.old (active_text row masked) self.new }
+        ensures bound { self.new.end ≤ self.old.end + 21 }
+    {
+        self.bytes(b"\tactive\t");
+        self.decimal(row as u64);
+        self.byte(b'\t');
+        self.bytes(kind_name(masked));
+        self.byte(b'\n');
+    }
+
+    fn bank(&mut self, bank: BankName, row: Option<OpenRow>)
+        requires { HasRoom self.old 22 }
+        ensures writes { Writes self.old (bank_line (letter bank) row) self.new }
+        ensures bound { self.new.end ≤ self.old.end + 22 }
+    {
+        self.byte(letter(bank));
+        match row {
+            None => self.bytes(b"\tidle\n"),
+            Some(OpenRow { row, masked }) => self.row(row, masked),
+        }
+    }
+
+    fn ok(&mut self, clocks: u64)
+        requires small { clocks < 10000 }
+        requires room { HasRoom self.old 8 }
+        ensures { Writes self.old (ok_line clocks) self.new }
+    {
+        self.bytes(b"ok\t");
+        self.decimal(clocks);
+        self.byte(b'\n');
+    }
+
+    fn fault(&mut self, fault: Fault)
+        requires early { fault.clock < 10000 }
+        requires room { HasRoom self.old 14 }
+        ensures { Writes self.old (fault_line (number_of fault.rule) fault.clock) self.new }
+    {
+        let number = fault.rule.number();
+        self.bytes(b"fault\t");
+        self.decimal(number as u64);
+        self.byte(b'\t');
+        self.decimal(fault.clock);
+        self.byte(b'\n');
+    }
+
+    // The verdict on so many clocks.
+    fn verdict(&mut self, clocks: u64, fault: Option<Fault>)
+        requires small { clocks < 10000 }
+        requires early { IfSome fault (λ f. f.clock < 10000) }
+        requires room { HasRoom self.old 14 }
+        ensures { Writes self.old (verdict_line clocks fault) self.new }
+    {
+        match fault {
+            None => self.ok(clocks),
+            Some(fault) => self.fault(fault),
+        }
+    }
+
+    // The rows of banks A and B, and the verdict.
+    pub fn state(
+        &mut self,
+        a: Option<OpenRow>,
+        b: Option<OpenRow>,
+        clocks: u64,
+        fault: Option<Fault>,
+    )
+        requires small { clocks < 10000 }
+        requires early { IfSome fault (λ f. f.clock < 10000) }
+        requires room { HasRoom self.old 64 }
+        ensures { Writes self.old (end_text a b clocks fault) self.new }
+    {
+        self.bank(BankName::A, a);
+        self.bank(BankName::B, b);
+        self.verdict(clocks, fault);
+    }
 }

@@ -1,13 +1,13 @@
 ghost use Rattle.std.specs.Prelude.{◌≡◌, None};
 ghost use Rattle.rules.specs.Beat.{begun, current, next_burst, burst_beat, beat_by};
-ghost use Rattle.rules.specs.State.{is_some};
+ghost use Rattle.std.specs.Option.{is_some};
 
 use super::Ongoing;
 use crate::columns::column_of;
 use rules::{Access, BankName, Beat, Burst, Command, Mode};
 
 fn begin(mode: Mode, access: Access, bank: BankName, column: u8) -> Ongoing
-    ensures { result.burst ≡ begun mode access bank column }
+    ensures { result ≡ begun mode access bank column }
 {
     let burst = match access {
         Access::Block => None,
@@ -24,20 +24,20 @@ fn begin(mode: Mode, access: Access, bank: BankName, column: u8) -> Ongoing
 
 impl Ongoing {
     pub fn none() -> Ongoing
-        ensures { result.burst ≡ None }
+        ensures { result ≡ None }
     {
         Ongoing { burst: None }
     }
 
     pub fn is_some(&self) -> bool
-        ensures { result ≡ is_some self.now.burst }
+        ensures { result ≡ is_some self.now }
     {
         self.burst.is_some()
     }
 
     // The burst whose beat is done at a clock with the given command.
     pub fn under(self, mode: Mode, command: Command) -> Ongoing
-        ensures { result.burst ≡ current mode self.burst command }
+        ensures { result ≡ current mode self command }
     {
         match command {
             Command::Stop => Ongoing::none(),
@@ -47,15 +47,9 @@ impl Ongoing {
                 a8: _,
                 column,
             } => begin(mode, access, bank, column),
-            Command::Precharge { both, bank } => match self.burst {
-                Some(u) => {
-                    if both || bank.is(u.bank) {
-                        Ongoing::none()
-                    } else {
-                        self
-                    }
-                }
-                None => self,
+            Command::Precharge(target) => match self.burst {
+                Some(u) if target.includes(u.bank) => Ongoing::none(),
+                _ => self,
             },
             _ => self,
         }
@@ -63,20 +57,15 @@ impl Ongoing {
 
     // What is under way after that beat.
     pub fn after(self) -> Ongoing
-        ensures { result.burst ≡ next_burst self.burst }
+        ensures { result ≡ next_burst self }
     {
         match self.burst {
             None => self,
             Some(u) => {
                 if u.next < u.mode.length.beats() - 1 {
+                    let next = u.next + 1;
                     Ongoing {
-                        burst: Some(Burst {
-                            access: u.access,
-                            bank: u.bank,
-                            from: u.from,
-                            next: u.next + 1,
-                            mode: u.mode,
-                        }),
+                        burst: Some(Burst { next, ..u }),
                     }
                 } else {
                     Ongoing::none()
@@ -85,22 +74,20 @@ impl Ongoing {
         }
     }
 
-    fn burst_beat(self) -> Beat
-        ensures { result ≡ burst_beat self.burst }
+    fn burst_beat(self) -> Option<Beat>
+        ensures { result ≡ burst_beat self }
     {
-        match self.burst {
-            None => Beat::Rest,
-            Some(u) => Beat::At {
-                access: u.access,
-                bank: u.bank,
-                column: column_of(u.mode, u.from, u.next),
-            },
-        }
+        let u = self.burst?;
+        Some(Beat {
+            access: u.access,
+            bank: u.bank,
+            column: column_of(u.mode, u.from, u.next),
+        })
     }
 
     // The beat of the clock, where this is the burst whose beat is done at it.
-    pub fn beat(self, command: Command) -> Beat
-        ensures { result ≡ beat_by command self.burst }
+    pub fn beat(self, command: Command) -> Option<Beat>
+        ensures { result ≡ beat_by command self }
     {
         match command {
             Command::Column {
@@ -108,11 +95,11 @@ impl Ongoing {
                 bank,
                 a8: _,
                 column,
-            } => Beat::At {
+            } => Some(Beat {
                 access: Access::Block,
                 bank,
                 column,
-            },
+            }),
             _ => self.burst_beat(),
         }
     }

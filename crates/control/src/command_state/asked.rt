@@ -1,6 +1,5 @@
 ghost use Rattle.std.specs.Prelude.{◌≡◌};
 ghost use Rattle.rules.specs.State.{at};
-ghost use Rattle.control.specs.View.{state_of};
 
 use super::Control;
 use rules::{Bank, BankName, Fault};
@@ -8,34 +7,34 @@ use sheet::Sheet;
 
 impl Control {
     pub fn sheet(&self) -> Sheet
-        ensures { result ≡ (state_of self.now).sheet }
+        ensures { result ≡ self.now.sheet }
     {
         let Control { sheet, .. } = self;
         *sheet
     }
 
     pub fn rows(&self) -> u32
-        ensures { result ≡ (state_of self.now).sheet.rows }
+        ensures { result ≡ self.now.sheet.rows }
     {
         self.sheet.rows
     }
 
     // The clocks since switch-on that were no fault.
     pub fn count(&self) -> u64
-        ensures { result ≡ (state_of self.now).clock }
+        ensures { result ≡ self.now.clock }
     {
         self.clock
     }
 
     // The first fault since switch-on.
     pub fn fault(&self) -> Option<Fault>
-        ensures { result ≡ (state_of self.now).fault }
+        ensures { result ≡ self.now.fault }
     {
         self.fault
     }
 
     pub fn bank(&self, name: BankName) -> Bank
-        ensures { result ≡ at (state_of self.now).banks name }
+        ensures { result ≡ at self.now.banks name }
     {
         self.table.get(name)
     }

@@ -4,7 +4,6 @@ ghost use Rattle.rules.specs.Faults.{lanes_now, malformed};
 ghost use Rattle.rules.specs.Step.{moved, failed, stepped};
 ghost use Rattle.rules.specs.Cells.{work_of};
 ghost use Rattle.beats.specs.Inside.{Inside};
-ghost use Rattle.control.specs.View.{state_of};
 ghost use Rattle.control.specs.Answer.{answered, StaysInside};
 
 use super::Control;
@@ -14,31 +13,34 @@ use rules::{Beat, Command, Fault, Pins, Rule, Work, decode};
 
 impl Control {
     // What a beat does to the cells.
-    fn work(&self, pins: Pins, beat: Beat) -> Work
-        ensures is { result ≡ work_of (state_of self.now) pins beat }
+    fn work(&self, pins: Pins, beat: Option<Beat>) -> Work
+        ensures is { result ≡ work_of self.now pins beat }
         ensures inside { Inside (self.now.sheet.rows * 512) result }
     {
         match beat {
-            Beat::Rest => Work::Nothing,
-            Beat::At {
-                access,
-                bank,
-                column,
-            } => {
-                let row = self.table.get(bank).row;
-                work_in(&self.sheet, self.registers, pins, access, bank, column, row)
+            None => Work::Nothing,
+            Some(beat) => {
+                let row = self.table.get(beat.bank).row;
+                work_in(&self.sheet, self.registers, pins, beat, row)
             }
         }
     }
 
     // A clock that is no fault, given its burst, its beat and the lanes that it drives.
-    fn advance(&mut self, pins: Pins, command: Command, burst: Ongoing, beat: Beat, lanes: u8)
+    fn advance(
+        &mut self,
+        pins: Pins,
+        command: Command,
+        burst: Ongoing,
+        beat: Option<Beat>,
+        lanes: u8,
+    )
         requires below { self.old.clock + 1 < 2 ^ 62 }
         requires formed { malformed self.old.sheet command ≡ false }
-        requires burst { burst.burst ≡ current (state_of self.old).registers.mode (state_of self.old).burst command }
-        requires beat { beat ≡ beat_of (state_of self.old).registers.mode (state_of self.old).burst command }
-        requires lanes { lanes ≡ lanes_now (state_of self.old) }
-        ensures { state_of self.new ≡ moved (state_of self.old) pins command }
+        requires burst { burst ≡ current self.old.registers.mode self.old.burst command }
+        requires beat { beat ≡ beat_of self.old.registers.mode self.old.burst command }
+        requires lanes { lanes ≡ lanes_now self.old }
+        ensures { self.new ≡ moved self.old pins command }
     {
         let t = self.clock + 1;
         let dqm = pins.dqm % 16;
@@ -48,7 +50,7 @@ impl Control {
         self.table.pass(command, t, !was, dqm, beat);
         self.registers = self.registers.after(command, pins.dq);
         self.ongoing = burst.after();
-        self.reads.push(beat.reads());
+        self.reads.push(beat.is_some_and(|b| b.reads()));
         self.dqms.push(dqm);
         self.steps = steps;
         self.marks
@@ -60,7 +62,7 @@ impl Control {
     // A clock that is a fault.
     fn fail(&mut self, rule: Rule) -> Fault
         ensures is { result ≡ record { rule = rule; clock = self.old.clock + 1 } }
-        ensures after { state_of self.new ≡ failed (state_of self.old) rule }
+        ensures after { self.new ≡ failed self.old rule }
     {
         let fault = Fault {
             rule,
@@ -72,8 +74,8 @@ impl Control {
 
     // A clock: after a fault nothing, at a fault it is kept, else the move. Answers the fault, or what is to be done.
     pub fn clock(&mut self, pins: Pins) -> Result<Moved, Fault>
-        ensures after { state_of self.new ≡ stepped (state_of self.old) pins }
-        ensures answer { result ≡ answered (state_of self.old) pins }
+        ensures after { self.new ≡ stepped self.old pins }
+        ensures answer { result ≡ answered self.old pins }
         ensures inside { StaysInside (self.old.sheet.rows * 512) result }
     {
         if let Some(fault) = self.fault {

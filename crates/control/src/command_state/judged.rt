@@ -1,7 +1,6 @@
 ghost use Rattle.std.specs.Prelude.{◌≡◌};
 ghost use Rattle.rules.specs.Beat.{beat_of};
 ghost use Rattle.rules.specs.Faults.{lanes_of, lanes_now, busy, found};
-ghost use Rattle.control.specs.View.{state_of};
 
 use super::Control;
 use beats::low_lanes;
@@ -23,22 +22,22 @@ fn lanes_under(dqm: u8, reading: bool) -> u8
 impl Control {
     // The lanes driven at this clock, where it is no fault.
     pub(super) fn lanes(&self) -> u8
-        ensures { result ≡ lanes_now (state_of self.now) }
+        ensures { result ≡ lanes_now self.now }
     {
         lanes_under(self.dqms.front(), self.reads.front())
     }
 
     fn is_busy(&self) -> bool
-        ensures { result ≡ busy (state_of self.now) }
+        ensures { result ≡ busy self.now }
     {
         self.ongoing.is_some() || self.reads.any()
     }
 
     // The first rule that this clock breaks, given its beat and the lanes that it would drive.
-    pub(super) fn judge(&self, command: Command, beat: Beat, lanes: u8) -> Option<Rule>
-        requires beat { beat ≡ beat_of (state_of self.now).registers.mode (state_of self.now).burst command }
-        requires lanes { lanes ≡ lanes_now (state_of self.now) }
-        ensures { result ≡ found (state_of self.now) command }
+    pub(super) fn judge(&self, command: Command, beat: Option<Beat>, lanes: u8) -> Option<Rule>
+        requires beat { beat ≡ beat_of self.now.registers.mode self.now.burst command }
+        requires lanes { lanes ≡ lanes_now self.now }
+        ensures { result ≡ found self.now command }
     {
         let t = self.clock + 1;
         if t == LAST {

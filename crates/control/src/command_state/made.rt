@@ -1,6 +1,5 @@
 ghost use Rattle.std.specs.Prelude.{◌≡◌};
 ghost use Rattle.rules.specs.State.{switched_on};
-ghost use Rattle.control.specs.View.{state_of};
 
 use super::Control;
 use beats::Ongoing;
@@ -33,7 +32,7 @@ const PAST: Past = Past {
 impl Control {
     // Just switched on.
     pub fn new(sheet: Sheet) -> Control
-        ensures { state_of result ≡ switched_on sheet }
+        ensures { result ≡ switched_on sheet }
     {
         Control {
             sheet,
@@ -53,19 +52,8 @@ impl Control {
 
     // Switched on with the given sheet, from any state.
     pub fn switch_on(&mut self, sheet: Sheet)
-        ensures { state_of self.new ≡ switched_on sheet }
+        ensures { self.new ≡ switched_on sheet }
     {
-        self.sheet = sheet;
-        self.clock = 0;
-        self.table = Table::new();
-        self.registers = REGISTERS;
-        self.ongoing = Ongoing::none();
-        self.reads = Delay::new(Depth::of_latency(&sheet), false);
-        self.dqms = Delay::new(Depth::Two, 0);
-        self.steps = STEPS;
-        self.marks.clear();
-        self.past = PAST;
-        self.drove = 0;
-        self.fault = None;
+        *self = Control::new(sheet);
     }
 }

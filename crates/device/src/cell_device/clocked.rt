@@ -1,7 +1,4 @@
-ghost use Rattle.std.specs.Prelude.{◌*◌, ◌≤◌, length};
-ghost use Rattle.lines.specs.Line.{line};
-ghost use Rattle.control.specs.View.{state_of};
-ghost use Rattle.device.specs.Cells.{cell_meaning};
+ghost use Rattle.device.specs.Cells.{meaning_of};
 
 use super::CellDevice;
 use crate::device::Device;
@@ -10,10 +7,10 @@ use rules::{Fault, Pins};
 use sheet::Sheet;
 
 impl<L: Layout> Device for CellDevice<'_, L> {
-    ghost meaning = { λ d. cell_meaning L.Layout.row L.Layout.words d.cells.now (state_of d.control) (line d.words) };
+    ghost meaning = { meaning_of };
 
-    // the memory holds the rows
-    ghost reachable = { λ d. L.Layout.row * d.control.sheet.rows ≤ length d.cells.now };
+    // all: that the memory holds the rows is in the type
+    ghost reachable = { λ _. Unit {0} };
 
     fn switch_on(&mut self) {
         self.wake();
@@ -24,7 +21,7 @@ impl<L: Layout> Device for CellDevice<'_, L> {
     }
 
     fn sheet(&self) -> Sheet {
-        self.fitting_sheet()
+        self.control.sheet()
     }
 
     fn fault(&self) -> Option<Fault> {
@@ -32,7 +29,7 @@ impl<L: Layout> Device for CellDevice<'_, L> {
     }
 
     fn word(&self, address: u32) -> u32 {
-        let rows = L::fitting(self.cells, self.control.rows() as usize);
+        let rows = self.control.rows() as usize;
         let address = address as usize;
         if address < 512 * rows {
             L::read(self.cells, rows, address)

@@ -1,8 +1,6 @@
-ghost use Rattle.std.specs.Prelude.{◌≡◌, ◌*◌, ◌/◌, ◌≤◌, length, replicate};
+ghost use Rattle.std.specs.Prelude.{◌≡◌, ◌*◌, ◌/◌, length};
 ghost use Rattle.sheet.specs.Lowered.{lowered};
-ghost use Rattle.rules.specs.State.{switched_on};
-ghost use Rattle.lines.specs.Line.{line};
-ghost use Rattle.control.specs.View.{state_of};
+ghost use Rattle.device.specs.Cells.{meaning_of, fresh};
 ghost use Rattle.device.specs.Memory.{answer, verdict};
 
 use super::CellDevice;
@@ -24,16 +22,21 @@ impl<'a, L: Layout> CellDevice<'a, L> {
         }
     }
 
+    // The sheet with the rows that fit.
+    fn fitting_sheet(cells: &[L::Cell], sheet: Sheet) -> Sheet
+        ensures { result ≡ lowered sheet (length cells.now / L.Layout.row) }
+    {
+        let rows = L::fitting(cells, sheet.rows as usize);
+        sheet.lowered(rows as u32)
+    }
+
     // A device just switched on, with as many of the sheet's rows as fit.
     pub fn new(cells: &'a mut [L::Cell], sheet: Sheet) -> CellDevice<'a, L>
         ensures memory { result.cells.now ≡ cells.old }
         ensures lender { result.cells.ghost_name ≡ cells.entry.ghost_name }
-        ensures state { state_of result.control ≡ switched_on (lowered sheet (length cells.old / L.Layout.row)) }
-        ensures words { line result.words ≡ replicate sheet.cl 0 }
-        ensures fit { L.Layout.row * result.control.sheet.rows ≤ length result.cells.now }
+        ensures is { meaning_of result ≡ fresh L.Layout.row L.Layout.words sheet cells.old }
     {
-        let rows = L::fitting(cells, sheet.rows as usize);
-        let sheet = sheet.lowered(rows as u32);
+        let sheet = Self::fitting_sheet(cells, sheet);
         CellDevice {
             cells,
             control: Control::new(sheet),

@@ -1,11 +1,9 @@
-use Rattle.std.proofs.Common.{◌≡◌, ℕ, ◌+◌, ◌-◌, ◌%◌, true, false, cond, leb, List, [], ◌++◌, length, take, drop, sym, ap, ◌∙◌, append-nil, arith, length-append, length-drop, length-take, le-leb}
-use borrow.Author.Tests.{lt-leb}
+use Rattle.std.proofs.Common.{◌≡◌, ℕ, ◌+◌, ◌-◌, ◌%◌, List, [], ◌++◌, length, take, drop, sym, ap, ◌∙◌, append-nil, arith, length-append, length-drop, length-take}
 use borrow.Rule.Slice.PartMut.{put_mid}
 use Rattle.std.proofs.lemmas.List.{take_at, drop_all}
 use Rattle.schedule.specs.Stretch.{span}
 use Rattle.schedule.proofs.Filling.{spreads}
 use Rattle.sequences.proofs.Gones.{gone_then, gone_is}
-use Rattle.accesses.specs.Rows.{with_row_read}
 use Rattle.accesses.proofs.runs.fetch.Goals as goal
 
 -- a buffer whose two parts were filled
@@ -16,8 +14,8 @@ two_parts r xs us vs l =
     let b : drop (length zs - r) (drop r zs) ≡ [] = drop_all (length zs - r) (drop r zs) (omega (arith, length-drop r zs)) in
     (λ i. a i ++ (vs ++ b i)) ∙ ap (λ t. us ++ t) (append-nil vs)
 
-pub returns-else-buffer-room : goal.returns-else-buffer-room
-returns-else-buffer-room g c =
+pub returns-else-buffer-room-clause-words : goal.returns-else-buffer-room-clause-words
+returns-else-buffer-room-clause-words g c =
     let s = c.args.channel.now in
     let x = c.args.address in
     let n = length c.args.buffer.now in
@@ -30,7 +28,6 @@ returns-else-buffer-room g c =
     let p = c.if-buffer-room.false in
     let bs = c.args.buffer.now in
     let long : length us ≡ r = omega (arith, length-take r bs) in
-    let all = two_parts r bs us vs long in
     let zs : List ℕ = us ++ drop r bs in
     let one : length (take r bs) ≡ r = omega (arith, length-take r bs) in
     let two : length (take (length zs - r) (drop r zs)) ≡ n - r =
@@ -38,31 +35,14 @@ returns-else-buffer-room g c =
     let k : r + (n - r) ≡ n = omega arith in
     let first : us ≡ span f x r = u.words ∙ ap (span f x) one in
     let second : vs ≡ span f (x + r) (n - r) = v.words ∙ (λ i. span (u.gone.went.cells i) (x + r) (two i)) in
-    let S = s.sheet in
-    let d = s.ledger in
-    let more : leb n r ≡ false = lt-leb n r p in
-    let led : c.read_at-else-buffer-room-2.new.channel.ledger ≡ with_row_read S (x + r) (n - r) (with_row_read S x r d) =
-    v.ledger ∙ ((λ i. with_row_read (u.gone.sheet i) (x + r) (two i) (u.ledger i)) ∙ ap (λ y. with_row_read S (x + r) (n - r) (with_row_read S x y d)) one) in
-    record {
-      ledger = led ∙ sym (ap (λ z. cond z (with_row_read S x n d) (with_row_read S (x + r) (n - r) (with_row_read S x r d))) more);
-      words = all ∙ ((λ i. first i ++ second i) ∙ (sym (spreads.read_in_two f x r (n - r)) ∙ ap (span f x) k));
-      few = omega (arith, u.few, v.few, one, two, c.requires.most);
-      gone = gone_is f (gone_then _ u.gone v.gone (sym all)) u.gone.went.cells;
-    }
+    two_parts r bs us vs long ∙ ((λ i. first i ++ second i) ∙ (sym (spreads.read_in_two f x r (n - r)) ∙ ap (span f x) k))
 
-pub returns-then-buffer-room : goal.returns-then-buffer-room
-returns-then-buffer-room g c =
-    let s = c.args.channel.now in
-    let x = c.args.address in
-    let n = length c.args.buffer.now in
-    let r : ℕ = 256 - x % 256 in
-    let u = c.read_at.ensures in
-    let S = s.sheet in
-    let d = s.ledger in
-    let less : leb n r ≡ true = le-leb n r c.if-buffer-room.true in
-    record {
-      ledger = u.ledger ∙ sym (ap (λ z. cond z (with_row_read S x n d) (with_row_read S (x + r) (n - r) (with_row_read S x r d))) less);
-      words = u.words;
-      few = omega (arith, u.few, c.requires.most);
-      gone = u.gone;
-    }
+pub returns-else-buffer-room-clause-gone : goal.returns-else-buffer-room-clause-gone
+returns-else-buffer-room-clause-gone g c =
+    let r : ℕ = 256 - c.args.address % 256 in
+    let u = c.read_at-else-buffer-room.ensures in
+    let us = c.read_at-else-buffer-room.new.buffer in
+    let bs = c.args.buffer.now in
+    let p = c.if-buffer-room.false in
+    let long : length us ≡ r = omega (arith, length-take r bs) in
+    gone_is _ (gone_then _ u.gone c.read_at-else-buffer-room-2.ensures.gone (sym (two_parts r bs us _ long))) u.gone.went.cells

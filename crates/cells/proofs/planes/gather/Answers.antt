@@ -1,8 +1,8 @@
-use Rattle.std.proofs.Common.{◌≡◌, ℕ, ◌+◌, ◌-◌, ◌*◌, get_or, refl, ap, ◌∙◌, arith}
+use Rattle.std.proofs.Common.{ℕ, ◌+◌, ◌*◌, get_or, refl, ◌∙◌, arith}
 use lib.Bits.{and_mask}
 use Rattle.rules.specs.Words.{bit}
 use Rattle.cells.specs.Planes.{number}
-use Rattle.cells.proofs.Bits.{number_down, number_whole, number_below, bit_below}
+use Rattle.cells.proofs.Bits.{number_down, number_below, bit_below}
 use Rattle.cells.proofs.planes.gather.Goals as goal
 
 pub loop-i-init : goal.loop-i-init
@@ -14,9 +14,3 @@ loop-i-preserved c =
     let f : ℕ → ℕ = λ i. bit (get_or c.args.bytes.now (c.args.at + 64 * i) 0) c.args.k in
     let e = number_down f 32 c.loop-i.i c.loop-i.found c.from.result c.loop-i-test.true c.loop-i.auto.i c.loop-i.invariant.0 (c.from.ensures ∙ and_mask _ 1) in
     (e, rw e (number_below _ _ (λ j. bit_below _ _)))
-
-pub returns : goal.returns
-returns c =
-    let f : ℕ → ℕ = λ i. bit (get_or c.args.bytes.now (c.args.at + 64 * i) 0) c.args.k in
-    let z : c.loop-i.i ≡ 0 = omega arith in
-    c.loop-i.invariant.0 ∙ ap (λ (i : ℕ). number (λ j. f (i + j)) (32 - i)) z ∙ number_whole f 32

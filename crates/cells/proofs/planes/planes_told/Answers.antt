@@ -1,9 +1,5 @@
-use Rattle.std.proofs.Common.{rules, below_more}
 use Rattle.cells.proofs.Told.{all_bytes, all_told}
 use Rattle.cells.proofs.planes.planes_told.Goals as goal
-
-pub loop-byte-preserved : goal.loop-byte-preserved
-loop-byte-preserved c = below_more _ _ c.loop-byte.invariant (search rules)
 
 pub returns : goal.returns
 returns c =

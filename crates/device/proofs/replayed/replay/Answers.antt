@@ -1,28 +1,25 @@
-use Rattle.std.proofs.Common.{◌≡◌, ◌*◌, drop, ap, ◌∙◌, subst, rules}
+use Rattle.std.proofs.Common.{◌≡◌, ap, ◌∙◌, rules}
+use Rattle.sheet.specs.declared.sheet.Sheet.{Sheet}
 use Rattle.rules.specs.Meaning.{Meaning, run}
-use Rattle.lines.specs.Line.{line}
-use Rattle.control.specs.View.{state_of}
-use Rattle.device.specs.Cells.{cell_meaning}
-use Rattle.device.proofs.Fits.{fresh_is, left_words, left_rest}
+use Rattle.device.specs.Cells.{meaning_of, fresh, rows_in}
+use Rattle.device.proofs.Fits.{left_words, left_rest}
 use Rattle.device.proofs.replayed.replay.Goals as goal
 
 pub returns : goal.returns
 returns g c =
     let row = g.L.Layout.row in
     let words = g.L.Layout.words in
-    let some = g.met.L.Layout.some in
     let d = c.new-device.result in
     let e = c.play.new.self in
+    let x : Sheet = c.args.sheet in
     let memory = c.args.memory.now in
     let ps = c.args.pins.now in
-    let s = state_of d.control in
     let start = c.new-device.ensures in
-    let after : cell_meaning row words e.cells.now (state_of e.control) (line e.words) ≡ run (cell_meaning row words memory s (line d.words)) ps =
-    subst (λ xs. cell_meaning row words e.cells.now (state_of e.control) (line e.words) ≡ run (cell_meaning row words xs s (line d.words)) ps) start.memory c.play.ensures.after in
+    let kept = c.play.ensures.kept in
+    let after : meaning_of e ≡ run (fresh row words x memory) ps = c.play.ensures.after ∙ ap (λ (m : Meaning). run m ps) start.is in
+    let rows : d.control.sheet.rows ≡ rows_in row x memory = ap (λ (m : Meaning). m.state.sheet.rows) start.is in
     record {
-      fault = c.fault.ensures ∙ ap (λ (m : Meaning). m.state.fault) (after ∙ ap (λ (m : Meaning). run m ps) (fresh_is row words some memory s (line d.words) c.args.sheet start.state start.words));
-      words = left_words row words some memory e.cells.now _ s (state_of e.control) (line d.words) (line e.words) c.args.sheet ps
-          start.state start.words c.play.ensures.sheet c.play.ensures.reachable after (search rules);
-      rest = left_rest row words some memory e.cells.now _ s c.args.sheet start.state
-          (subst (λ xs. drop (row * d.control.sheet.rows) e.cells.now ≡ drop (row * d.control.sheet.rows) xs) start.memory c.play.ensures.rest) (search rules);
+      fault = c.fault.ensures ∙ ap (λ (m : Meaning). m.state.fault) after;
+      words = left_words words row memory e.cells.now _ e.control e.words x ps (ap (λ (s : Sheet). s.rows) kept.sheet ∙ rows) after (search rules);
+      rest = left_rest row (rows_in row x memory) d.control.sheet.rows memory d.cells.now e.cells.now _ rows start.memory kept.rest (search rules);
     }

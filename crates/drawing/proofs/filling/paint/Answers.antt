@@ -1,15 +1,12 @@
-use Rattle.std.proofs.Common.{◌≡◌, ℕ, ◌+◌, ◌-◌, ◌%◌, false, cond, leb, [], sym, refl, ap, ◌∙◌, arith}
-use borrow.Author.Tests.{lt-leb}
+use Rattle.std.proofs.Common.{◌≡◌, ℕ, ◌+◌, ◌-◌, ◌%◌, [], refl, ap, ◌∙◌, arith}
 use Rattle.schedule.specs.Spread.{spread}
 use Rattle.schedule.proofs.Filling.{spreads}
 use Rattle.sequences.proofs.Gones.{gone_then, gone_is}
-use Rattle.drawing.specs.Drawn.{with_row_filled}
 use Rattle.drawing.proofs.filling.paint.Goals as goal
 
-pub returns-else-n-room : goal.returns-else-n-room
-returns-else-n-room g c =
+pub returns-else-n-room-clause-gone : goal.returns-else-n-room-clause-gone
+returns-else-n-room-clause-gone g c =
     let s = c.args.channel.now in
-    let S = s.sheet in
     let d = s.ledger in
     let x = c.args.address in
     let n = c.args.n in
@@ -17,13 +14,8 @@ returns-else-n-room g c =
     let f = (g.D.Device.meaning s.device).cells in
     let u = c.fill_at-else-n-room.ensures in
     let v = c.fill_at-else-n-room-2.ensures in
-    let more : leb n r ≡ false = lt-leb n r c.if-n-room.false in
+    let more = c.if-n-room.false in
     let all : r + (n - r) ≡ n = omega arith in
-    record {
-      ledger = v.ledger ∙ ((λ i. with_row_filled (u.gone.sheet i) (x + r) (n - r) (u.ledger i))
-          ∙ sym (ap (λ z. cond z (with_row_filled S x n d) (with_row_filled S (x + r) (n - r) (with_row_filled S x r d))) more));
-      few = omega (arith, u.few, v.few, c.requires.most);
-      gone = gone_is _ (gone_then [] u.gone v.gone refl)
-          ((λ i. spread (u.gone.went.cells i) (x + r) (n - r) (u.mask i) (λ _. u.colour i))
-          ∙ (spreads.more f x r (n - r) d.mask (λ _. d.colour) ∙ ap (λ k. spread f x k d.mask (λ _. d.colour)) all));
-    }
+    gone_is _ (gone_then [] u.gone v.gone refl)
+    ((λ i. spread (u.gone.went.cells i) (x + r) (n - r) (u.mask i) (λ _. u.colour i))
+    ∙ (spreads.more f x r (n - r) d.mask (λ _. d.colour) ∙ ap (λ k. spread f x k d.mask (λ _. d.colour)) all))

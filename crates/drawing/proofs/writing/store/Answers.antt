@@ -1,16 +1,13 @@
-use Rattle.std.proofs.Common.{◌≡◌, ℕ, ◌+◌, ◌-◌, ◌%◌, false, cond, leb, List, [], ◌++◌, length, take, drop, sym, refl, ap, ◌∙◌, arith, length-drop, length-take, take_all}
-use borrow.Author.Tests.{lt-leb}
+use Rattle.std.proofs.Common.{◌≡◌, ℕ, ◌+◌, ◌-◌, ◌%◌, List, [], ◌++◌, length, take, drop, sym, refl, ap, ◌∙◌, arith, length-drop, length-take, take_all}
 use Rattle.std.proofs.lemmas.List.{take-append-drop}
 use Rattle.schedule.specs.Writing.{all_written}
 use Rattle.schedule.proofs.Filling.{spreads}
 use Rattle.sequences.proofs.Gones.{gone_then, gone_is}
-use Rattle.drawing.specs.Drawn.{with_row_written}
 use Rattle.drawing.proofs.writing.store.Goals as goal
 
-pub returns-else-words-room : goal.returns-else-words-room
-returns-else-words-room g c =
+pub returns-else-words-room-clause-gone : goal.returns-else-words-room-clause-gone
+returns-else-words-room-clause-gone g c =
     let s = c.args.channel.now in
-    let S = s.sheet in
     let d = s.ledger in
     let x = c.args.address in
     let ws = c.args.words.now in
@@ -21,18 +18,11 @@ returns-else-words-room g c =
     let f = (g.D.Device.meaning s.device).cells in
     let u = c.write_at-else-words-room.ensures in
     let v = c.write_at-else-words-room-2.ensures in
-    let more : leb n r ≡ false = lt-leb n r c.if-words-room.false in
+    let more = c.if-words-room.false in
     let one : length us ≡ r = omega (arith, length-take (r - 0) ws) in
-    let two : length vs ≡ n - r = omega (arith, length-take (n - r) (drop r ws), length-drop r ws) in
     let zero : r - 0 ≡ r = omega arith in
     let rest : vs ≡ drop r ws = take_all (n - r) (drop r ws) (omega (arith, length-drop r ws)) in
     let all : us ++ vs ≡ ws = (λ i. take (zero i) ws ++ rest i) ∙ take-append-drop r ws in
-    record {
-      ledger = v.ledger ∙ ((λ i. with_row_written (u.gone.sheet i) (x + r) (two i) (u.ledger i))
-          ∙ ((λ i. with_row_written S (x + r) (n - r) (with_row_written S x (one i) d))
-          ∙ sym (ap (λ z. cond z (with_row_written S x n d) (with_row_written S (x + r) (n - r) (with_row_written S x r d))) more)));
-      few = omega (arith, u.few, v.few, c.requires.most);
-      gone = gone_is _ (gone_then [] u.gone v.gone refl)
-          ((λ i. all_written (x + sym one i) (u.mask i) vs (u.gone.went.cells i))
-          ∙ (sym (spreads.in_two us vs f x d.mask) ∙ ap (λ y. all_written x d.mask y f) all));
-    }
+    gone_is _ (gone_then [] u.gone v.gone refl)
+    ((λ i. all_written (x + sym one i) (u.mask i) vs (u.gone.went.cells i))
+    ∙ (sym (spreads.in_two us vs f x d.mask) ∙ ap (λ y. all_written x d.mask y f) all))

@@ -5,8 +5,8 @@ use Rattle.schedule.specs.Waking.{mode_code}
 use Rattle.driver.proofs.Waked.{primed_by}
 use Rattle.driver.proofs.waking.wake.Goals as goal
 
-pub returns : goal.returns
-returns g c =
+pub returns-clause-after : goal.returns-clause-after
+returns-clause-after g c =
     let s = c.args.sheet in
     let m : Meaning = g.D.Device.meaning c.args.device.now in
     let r = s.cl_range in
@@ -20,4 +20,4 @@ returns g c =
     let x₅ = c.clock-4.ensures.after ∙ (λ i. step (x₄ i) (refresh i)) in
     let x₆ = c.pause-2.ensures.after ∙ ap (λ x. run x (replicate (s.rc - 1) nop)) x₅ in
     let x₇ = c.clock-5.ensures.after ∙ (λ i. step (x₆ i) (refresh i)) in
-    record { reachable = c.clock-5.ensures.reachable; after = x₇ ∙ primed_by s m }
+    x₇ ∙ primed_by s m

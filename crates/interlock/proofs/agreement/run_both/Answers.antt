@@ -1,14 +1,6 @@
 use Rattle.std.proofs.Common.{sym, refl}
-use Rattle.interlock.proofs.Ran.{ran_more, ran_all, ran_agree}
+use Rattle.interlock.proofs.Ran.{ran_all, ran_agree}
 use Rattle.interlock.proofs.agreement.run_both.Goals as goal
-
-pub loop-p-preserved : goal.loop-p-preserved
-loop-p-preserved g c = (
-  c.clock-x.ensures.reachable,
-  c.clock-y.ensures.reachable,
-  ran_more _ _ _ _ _ _ c.args.pins.now c.loop-p.p-index _ c.loop-p.agreed _ c.clock-x.result c.clock-y.result c.loop-p-test.true
-      c.clock-x.ensures.after c.clock-y.ensures.after c.clock-x.ensures.answer c.clock-y.ensures.answer c.same_answer-agreed.ensures c.loop-p.invariant.2,
-)
 
 pub returns : goal.returns
 returns g c =

@@ -1,23 +1,20 @@
-use Rattle.std.proofs.Common.{◌≡◌, ℕ, List, length, get_or, refl, ap, ◌∙◌, arith}
-use Rattle.sheet.specs.Admit.{ranges}
-use Rattle.listing.specs.Page.{names, field_text}
-use Rattle.listing.proofs.Pages.{heading_more, heading_all}
+use Rattle.std.proofs.Common.{refl, ap, ◌∙◌, inl, inr, ⊎_elim}
+use Rattle.std.proofs.lemmas.List.{nil_from_length}
+use Rattle.std.specs.Iterator.Adapters.{zip_first, zip_second}
+use Rattle.std.specs.Slice.Iter.{iter_rest}
+use Rattle.listing.specs.Page.{names}
+use Rattle.listing.proofs.Pages.{heads_all}
 use Rattle.listing.proofs.page.heading_text.Goals as goal
 
--- each field has a name
-named : length names ≡ length ranges
+pub loop-name-init : goal.loop-name-init
 unfolding names
-named = refl
-
-pub loop-i-preserved : goal.loop-i-preserved
-loop-i-preserved c =
-    heading_more names c.fields-fields.result c.loop-i.i _ _ _
-    (omega (arith, named))
-    (rw c.fields-fields.ensures c.loop-i-test.true)
-    c.loop-i.invariant
-    (c.as_str.ensures.value ∙ c.in_ok-line.ensures ∙ ap (λ (t : List ℕ). field_text t (get_or c.fields-fields.result c.loop-i.i 0)) c.field_name.ensures)
-    c.in_ok-push_str.ensures.bytes
+loop-name-init c =
+    let it = c.into_iter-name-iterator in
+    let ns = ap (λ x. iter_rest (zip_first x)) it.ensures.into_iter_gives ∙ ap iter_rest c.zip-name-items.ensures.first ∙ c.iter.ensures.rest in
+    let xs = ap (λ x. iter_rest (zip_second x)) it.ensures.into_iter_gives ∙ ap iter_rest c.zip-name-items.ensures.second ∙ c.iter-2.ensures.rest ∙ c.fields-fields.ensures in
+    record { can_next = (tt, tt); is_finite = tt; whole = rw (c.new-text.ensures.bytes, ns, xs) refl }
 
 pub returns : goal.returns
 returns c =
-    heading_all names c.fields-fields.result _ c.loop-i.i _ (omega (arith, named)) c.fields-fields.ensures c.loop-i.invariant
+    heads_all _ _ _ _ c.loop-name.invariant.whole
+    (⊎_elim (λ e. inl (nil_from_length _ e.1.0)) (λ e. inr (nil_from_length _ e.1.0)) c.in-None.ensures.steps)

@@ -1,12 +1,8 @@
-use Rattle.std.proofs.Common.{string_bytes, ap, ◌∙◌}
-use Rattle.listing.specs.Words.{hex, command_text}
-use Rattle.listing.proofs.Pages.{clock_made}
+use Rattle.std.proofs.Common.{◌^◌, ◌<◌, rules}
+use Rattle.listing.proofs.Hex.{one_digit, eight_digits}
 use Rattle.listing.proofs.page.row_text.Goals as goal
 
 pub returns : goal.returns
 returns c =
-    clock_made string_bytes c.clock_line.result c.args.clock _ _ _ _ _ _
-    (c.as_str.ensures.value ∙ c.in_ok-command.ensures ∙ ap (command_text c.args.latency) c.decode.ensures)
-    (c.as_str-2.ensures.value ∙ c.in_ok-dqm.ensures ∙ ap (hex 1) c.from.ensures)
-    (c.as_str-3.ensures.value ∙ c.in_ok-dq.ensures)
-    c.clock_line.ensures
+    let word : c.args.pins.dq < 2 ^ 32 = search rules in
+    rw (c.laid_out.ensures, c.in_radix.ensures, c.in_radix-2.ensures, one_digit c.args.pins.dqm, eight_digits c.args.pins.dq word, c.decode.ensures) at c.format.ensures.ok

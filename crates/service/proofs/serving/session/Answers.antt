@@ -4,8 +4,7 @@ use Rattle.rules.specs.Meaning.{Meaning, switch_on}
 use Rattle.schedule.specs.Stretch.{Stretch}
 use Rattle.schedule.specs.Waking.{settled}
 use Rattle.schedule.proofs.Chains.{stretch_then}
-use Rattle.schedule.proofs.Obeying.{says}
-use Rattle.full_driver.specs.States.{device_of}
+use Rattle.driver.specs.Devices.{device_of}
 use Rattle.book.specs.Law.{Upheld}
 use Rattle.service.proofs.serving.session.Goals as goal
 
@@ -17,21 +16,20 @@ returns g c =
     let off : M c.new.result.device ≡ m = ap M c.new.ensures in
     let a = c.settle.ensures in
     let p = c.prime-driver.ensures in
-    let still : Meaning = M c.settle.result.device in
+    let still : Meaning = M c.settle.result in
     let ready : Meaning = M (device_of c.prime-driver.result) in
     let e : still ≡ settled s m.cells = a.after ∙ (λ i. settled (off i).state.sheet (off i).cells) in
     let n : ℕ = s.rp + s.rc + 3 in
     let sheet : still.state.sheet ≡ s = ap (λ x. x.state.sheet) e in
-    let rests = p.rest.stands.rests in
     let settling : Stretch (switch_on m) (settled s m.cells) s.pup [] =
     subst (λ x. Stretch (switch_on m) x s.pup []) e (subst (λ x. Stretch (switch_on x) still x.state.sheet.pup []) off a.stretch) in
     let priming : Stretch (settled s m.cells) ready n [] = subst (λ x. Stretch x ready (x.state.sheet.rp + x.state.sheet.rc + 3) []) e p.stretch in
     let words : ready.cells ≡ m.cells = p.cells ∙ ap (λ x. x.cells) e in
-    let served = c.serve.ensures.served in
+    let served = c.serve.ensures in
     let es = served.events in
     let m' : Meaning = M c.release.result in
     let upheld : Upheld m.cells ready es m' =
-    subst (λ x. Upheld x ready es m') words (subst (λ x. Upheld ready.cells ready es x) (ap M (sym c.release.ensures)) served.upheld) in
+    subst (λ x. Upheld x ready es m') words (subst (λ x. Upheld ready.cells ready es x) (ap M (sym c.release.ensures.device)) served.upheld) in
     record {
       law = record {
         events = es;
@@ -42,12 +40,12 @@ returns g c =
           settling = settling;
           priming = priming;
           soon = subst (λ x. x.rp + x.rc + 3 ≤ 700) sheet p.few;
-          sheet = says.sheet _ _ _ _ rests ∙ (p.sheet ∙ sheet);
-          clock = says.clock _ _ _ _ rests ∙ (ap (λ x. x.clock) p.ledger ∙ (λ i. (sheet i).pup + ((sheet i).rp + (sheet i).rc + 3)));
+          sheet = p.kept ∙ sheet;
+          clock = p.count ∙ (λ i. (sheet i).pup + ((sheet i).rp + (sheet i).rc + 3));
           words = words;
           upheld = upheld;
           whole = stretch_then _ _ _ _ _ _ _ settling (stretch_then _ _ _ _ _ _ _ priming upheld.stretch);
         };
       };
-      reachable = subst g.D.Device.reachable (sym c.release.ensures) c.serve.ensures.rest.stands.valid;
+      reachable = c.release.ensures.reachable;
     }

@@ -1,34 +1,30 @@
-use Rattle.std.proofs.Common.{◌≡◌, sym, ap, ◌∙◌, arith}
-use Rattle.std.specs.Slice.Iter.{chunks_rest, chunks_size}
-use Rattle.trace.proofs.Pieces.{counted_none, read_less, read_more, read_ill, read_all, counted_all}
-use Rattle.trace.specs.Body.{clocks_of}
+use Rattle.std.proofs.Common.{◌≡◌, List, ℕ, length, sym, ap, ◌∙◌, rules, tests}
+use Rattle.std.specs.Slice.Iter.{chunks_rest}
+use Rattle.std.proofs.lemmas.Iterator.Search.{position_from_yields_List}
+use Rattle.std.proofs.lemmas.Iterator.Adapters.{position_from-zero}
+use Rattle.std.specs.List.{position_from}
+use Rattle.trace.specs.Answer.{on}
+use Rattle.trace.specs.Body.{pieces, clocks_of}
+use Rattle.trace.proofs.Pieces.{chunked, ill, seen, clocks_seen, whole_body}
 use Rattle.trace.proofs.body.clock_lines.Goals as goal
+use Rattle.trace.proofs.body.clock_lines.Goals.{After-position-ill_formed}
 
-pub loop-line-init : goal.loop-line-init
-loop-line-init c =
-    let size : chunks_size c.into_iter-line-iterator.result ≡ 21 = ap chunks_size c.into_iter-line-iterator.ensures.into_iter_gives ∙ c.chunks-line-items.ensures.size in
-    let rest : chunks_rest c.into_iter-line-iterator.result ≡ c.args.body.now = ap chunks_rest c.into_iter-line-iterator.ensures.into_iter_gives ∙ c.chunks-line-items.ensures.rest in
-    (omega (arith, size), omega arith, size, rw rest (omega arith), rw rest (counted_none (clocks_of c.args.body.now)))
+found : (c : After-position-ill_formed) → on length (clocks_of c.args.body.now) ≡ seen (length (pieces c.args.body.now)) c.position-ill_formed.result
+found c =
+    clocks_seen c.args.body.now ∙ ap (seen (length (pieces c.args.body.now)))
+    (sym (position_from_yields_List ill _ _ _ c.position-ill_formed.ensures.ran
+    (chunked c.chunks.result c.chunks.ensures.size) (λ x r q k. search (rules, tests))
+    ∙ position_from-zero ill (pieces (chunks_rest c.chunks.result)) ∙ ap (λ (bs : List ℕ). position_from ill 0 (pieces bs)) c.chunks.ensures.rest))
 
-pub returns-then-is_none : goal.returns-then-is_none
-returns-then-is_none c = record {
-  value =
-      sym (read_ill _ _ _ _ _ _ c.loop-line.invariant.2 c.in-Some.ensures.steps.1 c.clock_line.ensures c.if-is_none.ensures)
-      ∙ c.loop-line.invariant.4;
-  listed = tt;
-}
+pub returns-in-Some-clause-value : goal.returns-in-Some-clause-value
+returns-in-Some-clause-value c =
+    sym (found (goal.at.returns-in-Some-clause-value c).After-position-ill_formed ∙ ap (seen (length (pieces c.args.body.now))) c.in-Some.is)
 
-pub loop-line-preserved : goal.loop-line-preserved
-loop-line-preserved c =
-    let size : chunks_size c.next.new.self ≡ 21 = c.in-Some.ensures.steps.0 ∙ c.loop-line.invariant.2 in (
-      omega (arith, size),
-      omega arith,
-      size,
-      read_less _ _ _ _ _ _ c.loop-line.invariant.2 c.in-Some.ensures.steps.1 c.loop-line.invariant.3,
-      sym (read_more _ _ _ _ _ _ c.loop-line.invariant.2 c.in-Some.ensures.steps.1 c.clock_line.ensures c.if-is_none.ensures) ∙ c.loop-line.invariant.4,
-    )
+pub returns-in-None-clause-value : goal.returns-in-None-clause-value
+returns-in-None-clause-value c =
+    (whole_body _ _ (found (goal.at.returns-in-None-clause-value c).After-position-ill_formed ∙ ap (seen (length (pieces c.args.body.now))) c.in-None.is)).2
 
-pub returns : goal.returns
-returns c =
-    let e = sym (read_all _ _ c.in-None.ensures.steps.1.0) ∙ c.loop-line.invariant.4 in
-    record { value = e; listed = counted_all _ _ e }
+pub returns-in-None-clause-listed : goal.returns-in-None-clause-listed
+returns-in-None-clause-listed c =
+    let w = whole_body _ _ (found (goal.at.returns-in-None-clause-listed c).After-position-ill_formed ∙ ap (seen (length (pieces c.args.body.now))) c.in-None.is) in
+    (w.0, w.1)

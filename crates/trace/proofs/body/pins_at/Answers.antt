@@ -1,7 +1,7 @@
 use Rattle.std.proofs.Common.{◌≡◌, ◌+◌, ◌-◌, ◌*◌, sym, ◌∙◌, arith}
 use Rattle.trace.specs.Clock.{pins_of}
 use Rattle.trace.specs.Body.{piece}
-use Rattle.trace.proofs.Clocks.{piece_past, clocks_nth}
+use Rattle.trace.proofs.Nth.{piece_past, clocks_nth}
 use Rattle.trace.proofs.body.pins_at.Goals as goal
 
 pub returns-then-clock-body : goal.returns-then-clock-body

@@ -1,18 +1,17 @@
-use Rattle.std.proofs.Common.{not, sym, arith}
-use Rattle.std.proofs.lemmas.List.Sums.{prefix_len-drop_yes, prefix_len-drop_no, prefix_len-drop_all}
-use Rattle.std.proofs.lemmas.Bool.{not_from_true, not_from_false}
-use Rattle.trace.specs.Opening.{mark}
+use Rattle.std.proofs.Common.{◌≡◌, ℕ, ◌≤◌, Some, None, cond, ltb, length, unwrap_or, not, ap, ◌∙◌, arith, rules, tests}
+use Rattle.std.proofs.lemmas.Iterator.{YieldsList-from_slice}
+use Rattle.std.proofs.lemmas.Iterator.Search.{position_from_yields_List}
+use Rattle.std.proofs.lemmas.List.Sums.{prefix_len-le-length}
+use Rattle.std.proofs.lemmas.Bool.Decides.{nat_tests}
+use Rattle.trace.specs.Opening.{mark, before_mark}
 use Rattle.trace.proofs.opening.field_width.Goals as goal
 
-pub returns-then-ends_field : goal.returns-then-ends_field
-returns-then-ends_field c =
-    let no = not_from_true _ (sym c.if-ends_field.ensures) in
-    omega (arith, prefix_len-drop_no (λ b. not (mark b)) c.args.text.now c.loop-i.i 0 c.loop-i-test.true no, c.loop-i.invariant)
-
-pub loop-i-preserved : goal.loop-i-preserved
-loop-i-preserved c =
-    let yes = not_from_false _ (sym c.if-ends_field.ensures) in
-    omega (arith, prefix_len-drop_yes (λ b. not (mark b)) c.args.text.now c.loop-i.i 0 c.loop-i-test.true yes, c.loop-i.invariant)
+or_all : (p n : ℕ) → p ≤ n → unwrap_or (cond (ltb p n) (Some p) None) n ≡ p
+or_all p n h = grind (arith, nat_tests)
 
 pub returns : goal.returns
-returns c = omega (arith, prefix_len-drop_all (λ b. not (mark b)) c.args.text.now c.loop-i.i (omega arith), c.loop-i.invariant)
+returns c =
+    let text = c.args.text.now in
+    c.unwrap_or.ensures ∙ ap (λ o. unwrap_or o (length text))
+    (position_from_yields_List mark _ _ _ c.position.ensures.ran (YieldsList-from_slice text c.iter.ensures.rest) (λ x r q k. search (rules, tests)))
+    ∙ or_all (before_mark text) (length text) (prefix_len-le-length (λ b. not (mark b)) text)

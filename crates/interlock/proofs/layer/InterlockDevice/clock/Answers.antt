@@ -1,12 +1,11 @@
 use Rattle.std.proofs.Common.{refl}
-use Rattle.control.specs.View.{state_of}
 use Rattle.interlock.proofs.Guarded.{held, went}
 use Rattle.interlock.proofs.layer.InterlockDevice.clock.Goals as goal
 
 pub returns-in-Err : goal.returns-in-Err
 returns-in-Err g c =
     let self = c.args.self.now in
-    let w = held (g.D.Device.meaning self.below) (state_of self.control) (state_of c.clock.new.self) c.args.pins c.in-Err.field-0
+    let w = held (g.D.Device.meaning self.below) self.control c.clock.new.self c.args.pins c.in-Err.field-0
     c.requires.1 c.clock.ensures.after c.in-Err.ensures.answer in
     record {
       reachable = (c.requires.0, w.0);
@@ -20,7 +19,7 @@ returns-in-Ok g c =
     let self = c.args.self.now in
     let after = c.clock-in-Ok.ensures.after in
     let answer = c.clock-in-Ok.ensures.answer in
-    let w = went (g.D.Device.meaning self.below) (g.D.Device.meaning c.clock-in-Ok.new.self) (state_of self.control) (state_of c.clock.new.self) c.args.pins c.in-Ok.field-0
+    let w = went (g.D.Device.meaning self.below) (g.D.Device.meaning c.clock-in-Ok.new.self) self.control c.clock.new.self c.args.pins c.in-Ok.field-0
     c.clock-in-Ok.result c.requires.1 c.clock.ensures.after c.in-Ok.ensures.answer after answer in
     record {
       reachable = (c.clock-in-Ok.ensures.reachable, w.0);
