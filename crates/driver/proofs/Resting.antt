@@ -1,9 +1,10 @@
 -- What a driver at rest keeps, out of its type.
-use Rattle.std.proofs.Common.{◌≡◌, ℕ, false, cond, Some, None, Option, refl, ap, arith}
+use Rattle.std.proofs.Common.{◌≡◌, ℕ, Some, None, Option, ap}
 use Rattle.std.specs.Coded.{Unit-prop, le_prop, Coded-set, coded_bool}
 use Rattle.std.proofs.Math.Logic.{∥∥₁_elim}
 use Rattle.std.specs.Option.{is_some}
 use Rattle.rules.specs.Meaning.{Meaning}
+use Rattle.rules.proofs.Ways.{no_fault}
 use Rattle.schedule.specs.declared.ledger.Ledger.{Ledger}
 use Rattle.schedule.specs.Budget.{Recent, DueSoon}
 use Rattle.schedule.proofs.Obeying.{says}
@@ -23,10 +24,6 @@ soon_prop d x y = λ i. record {
   recent_b = recent_prop 1724 d.b.row d.b.opened d.clock x.recent_b y.recent_b i;
 }
 
-none_is : {X : Type 0} (x : Option X) → is_some x ≡ false → x ≡ None
-none_is None e = refl
-none_is (Some y) e = let z : ◌≡◌ {A = ℕ} 1 0 = ap (λ b. cond b 1 0) e in absurd (omega arith)
-
 module _ {D : Type 0} {reachable : D → Type 0} {meaning : D → Meaning} where
   pub soon_of : (s : Held D) → ∥ Rest reachable meaning s ∥₁ → DueSoon s.ledger
   soon_of s r = ∥∥₁_elim r (soon_prop s.ledger) (λ x. x.soon)
@@ -36,4 +33,4 @@ module _ {D : Type 0} {reachable : D → Type 0} {meaning : D → Meaning} where
 
   -- no rule was broken
   pub sound_of : (s : Held D) → ∥ Rest reachable meaning s ∥₁ → (meaning s.device).state.fault ≡ None
-  sound_of s r = none_is _ (∥∥₁_elim r (Coded-set coded_bool _ _) (λ x. ap is_some (says.sound _ _ _ _ x.stands.rests)))
+  sound_of s r = no_fault _ (∥∥₁_elim r (Coded-set coded_bool _ _) (λ x. ap is_some (says.sound _ _ _ _ x.stands.rests)))
