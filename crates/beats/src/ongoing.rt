@@ -1,6 +1,8 @@
 // The burst that is under way, if one is.
+ghost use Rattle.std.specs.Prelude.{◌≡◌, true};
+ghost use Rattle.beats.specs.Within.{within};
+
 use rules::Burst;
-use std::marker::Model;
 
 mod moves;
 
@@ -8,19 +10,5 @@ mod moves;
 #[derive(Clone, Copy)]
 pub struct Ongoing {
     burst: Option<Burst>,
-}
-
-// Clauses see the burst.
-impl Model for Ongoing {
-    ghost use Rattle.std.specs.Prelude.{◌≡◌, true, Option};
-    ghost use Rattle.rules.specs.declared.state.Burst.{Burst};
-    ghost use Rattle.beats.specs.Within.{within};
-
-    ghost Value = { Option Burst };
-
-    ghost view = { λ o. o.burst };
-
-    ghost invariant = { λ o. within o.burst ≡ true };
-
-    ghost inverse = { λ u. record { burst = u } };
+    ghost due: { within burst ≡ true },
 }

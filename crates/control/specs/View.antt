@@ -1,5 +1,7 @@
 use Rattle.std.specs.Prelude.{◌≡◌, ◌^◌, ◌<◌, true}
 use Rattle.rules.specs.State.{State}
+use Rattle.lines.specs.Line.{line}
+use Rattle.judging.specs.Pair.{pair}
 use Rattle.beats.specs.Inside.{row_in}
 use Rattle.control.specs.declared.command_state.Control.TheInside.{Inside}
 
@@ -8,11 +10,11 @@ abbrev pub state_of : Inside → State
 state_of s = record {
   sheet = s.sheet;
   clock = s.clock;
-  banks = s.table;
+  banks = pair s.table;
   registers = s.registers;
-  burst = s.ongoing;
-  reads = s.reads;
-  dqms = s.dqms;
+  burst = s.ongoing.burst;
+  reads = line s.reads;
+  dqms = line s.dqms;
   steps = s.steps;
   marks = s.marks;
   past = s.past;

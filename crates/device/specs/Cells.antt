@@ -3,13 +3,14 @@ use Rattle.std.specs.Prelude.{◌≡◌, ℕ, ◌*◌, ◌/◌, min, List, lengt
 use Rattle.sheet.specs.declared.sheet.Sheet.{Sheet}
 use Rattle.sheet.specs.Lowered.{lowered}
 use Rattle.rules.specs.State.{switched_on}
+use Rattle.lines.specs.Line.{line}
 use Rattle.rules.specs.Meaning.{Meaning}
 use Rattle.cells.specs.declared.layout.Layout.{Ghosts}
 use Rattle.device.specs.declared.cell_device.CellDevice.{CellDevice}
 
 -- what a device is, where its layout says how the memory holds the words
 abbrev pub meaning_of : {L X : Type 0} {G : Ghosts L X} → CellDevice L X G → Meaning
-meaning_of {G = G} d = record { state = d.control; words = d.words; cells = G.words d.control.sheet.rows d.cells.now }
+meaning_of {G = G} d = record { state = d.control; words = line d.words; cells = G.words d.control.sheet.rows d.cells.now }
 
 -- what clocks leave as it is: the lender, the memory past the rows, its length and the sheet
 pub record Keeps {L X : Type 0} {G : Ghosts L X} (d e : CellDevice L X G) : Type 0 where

@@ -12,4 +12,5 @@ pub use aiming::aim;
 pub use filling::paint;
 pub use laws::drawn_soon;
 pub use registers::load;
+pub use rules::Register;
 pub use writing::store;

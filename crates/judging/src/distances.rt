@@ -1,6 +1,7 @@
 // Distances that are too short.
 ghost use Rattle.std.specs.Prelude.{◌≡◌};
 ghost use Rattle.rules.specs.Faults.{closing_early, too_close};
+ghost use Rattle.judging.specs.Pair.{pair};
 
 use crate::table::Table;
 use lines::is_short;
@@ -22,7 +23,7 @@ pub fn is_too_close(
     t: u64,
     command: Command,
 ) -> bool
-    ensures { result ≡ too_close sheet.now table.now blocked t command }
+    ensures { result ≡ too_close sheet.now (pair table.now) blocked t command }
 {
     match command {
         Command::Column { bank, .. } => is_short(table.get(bank).opened, sheet.rcd, t)

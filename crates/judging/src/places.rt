@@ -1,6 +1,7 @@
 // Operands that there are not, commands out of place, and writes while the bus is driven.
 ghost use Rattle.std.specs.Prelude.{◌≡◌};
 ghost use Rattle.rules.specs.Faults.{malformed, some_active, out_of_place, clash};
+ghost use Rattle.judging.specs.Pair.{pair};
 
 use crate::table::Table;
 use rules::{BankName, Beat, Command, Mode, Register};
@@ -24,14 +25,14 @@ pub fn is_malformed(sheet: &Sheet, command: Command) -> bool
 }
 
 fn is_some_active(table: &Table) -> bool
-    ensures { result ≡ some_active table.now }
+    ensures { result ≡ some_active (pair table.now) }
 {
     table.get(BankName::A).row.is_some() || table.get(BankName::B).row.is_some()
 }
 
 // The banks, or beats that are left, do not allow the command.
 pub fn is_out_of_place(table: &Table, busy: bool, command: Command) -> bool
-    ensures { result ≡ out_of_place table.now busy command }
+    ensures { result ≡ out_of_place (pair table.now) busy command }
 {
     match command {
         Command::Column { bank, .. } => !table.get(bank).row.is_some(),

@@ -1,6 +1,7 @@
 // Rows open too long, power-up, and commands too soon after a refresh or a register load.
 ghost use Rattle.std.specs.Prelude.{◌≡◌, ◌||◌};
 ghost use Rattle.rules.specs.Faults.{open_long, comes_next, forbidden, too_soon};
+ghost use Rattle.judging.specs.Pair.{pair};
 
 use crate::table::Table;
 use lines::{is_over, is_short};
@@ -14,7 +15,7 @@ fn is_row_old(bank: Bank, most: u32, t: u64) -> bool
 
 // A row is open over `most` clocks.
 pub fn is_open_long(table: &Table, most: u32, t: u64) -> bool
-    ensures { result ≡ open_long table.now.a most t || open_long table.now.b most t }
+    ensures { result ≡ open_long (pair table.now).a most t || open_long (pair table.now).b most t }
 {
     is_row_old(table.get(BankName::A), most, t) || is_row_old(table.get(BankName::B), most, t)
 }

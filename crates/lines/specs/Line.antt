@@ -2,7 +2,7 @@ use Rattle.std.specs.Prelude.{◌≡◌, ℕ, List, [], ◌∷◌, ◌++◌, len
 use Rattle.rules.specs.Delay.{leaving, passed}
 use Rattle.lines.specs.declared.delay.Depth.{Depth}
 use Rattle.lines.specs.declared.delay.Depth.TheVariants.{One, Two, Three}
-use Rattle.lines.specs.declared.delay.Delay.TheInside.{Inside}
+use Rattle.lines.specs.declared.delay.Delay.{Delay}
 
 abbrev pub clocks : Depth → ℕ
 clocks One = 1
@@ -15,7 +15,7 @@ lined Two x y z = x ∷ (y ∷ [])
 lined Three x y z = x ∷ (y ∷ (z ∷ []))
 
 -- the elements of a line, oldest first
-abbrev pub line : {X : Type 0} → Inside X → List X
+abbrev pub line : {X : Type 0} → Delay X → List X
 line d = lined d.depth d.first d.second d.third
 
 -- what leaves a line, clock by clock, while the given elements enter it

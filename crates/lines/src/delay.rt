@@ -1,10 +1,9 @@
 // A delay line for elements of every kind.
 ghost use Rattle.std.specs.Prelude.{◌≡◌, replicate};
 ghost use Rattle.rules.specs.Delay.{leaving, passed, any_in};
-ghost use Rattle.lines.specs.Line.{clocks};
+ghost use Rattle.lines.specs.Line.{line, clocks};
 
 use sheet::Sheet;
-use std::marker::Model;
 
 // How many clocks a line is long.
 #[derive(Clone, Copy)]
@@ -28,7 +27,7 @@ impl Depth {
 }
 
 // `first` leaves next; what lies past the depth is not looked at. Three fields, since a device takes no memory.
-#[derive(Clone, Drop)]
+#[derive(Clone, Copy)]
 pub struct Delay<T> {
     depth: Depth,
     first: T,
@@ -36,20 +35,9 @@ pub struct Delay<T> {
     third: T,
 }
 
-// Clauses see the elements, oldest first.
-impl<T> Model for Delay<T> {
-    ghost use Rattle.std.specs.Prelude.{List};
-
-    ghost Value = { List T };
-
-    ghost use Rattle.lines.specs.Line.{line};
-
-    ghost view = { line };
-}
-
 impl<T: Copy> Delay<T> {
     pub fn new(depth: Depth, empty: T) -> Delay<T>
-        ensures { result ≡ replicate (clocks depth) empty }
+        ensures { line result ≡ replicate (clocks depth) empty }
     {
         Delay {
             depth,
@@ -61,7 +49,7 @@ impl<T: Copy> Delay<T> {
 
     // What leaves at this clock.
     pub fn front(&self) -> T
-        ensures { (d : T) → result ≡ leaving d self.now }
+        ensures { (d : T) → result ≡ leaving d (line self.now) }
     {
         let Delay { first, .. } = *self;
         first
@@ -69,7 +57,7 @@ impl<T: Copy> Delay<T> {
 
     // A clock: the front leaves and x enters.
     pub fn push(&mut self, x: T)
-        ensures { self.new ≡ passed self.old x }
+        ensures { line self.new ≡ passed (line self.old) x }
     {
         match self.depth {
             Depth::One => self.first = x,
@@ -89,7 +77,7 @@ impl<T: Copy> Delay<T> {
 impl Delay<bool> {
     // Whether any element is true.
     pub fn any(&self) -> bool
-        ensures { result ≡ any_in self.now }
+        ensures { result ≡ any_in (line self.now) }
     {
         match self.depth {
             Depth::One => self.first,

@@ -1,5 +1,5 @@
 // The refresh marks, in a ring of n of 1,024 places.
-ghost use Rattle.std.specs.Prelude.{◌≡◌, [], replicate};
+ghost use Rattle.std.specs.Prelude.{◌≡◌, ◌≤◌, [], length, replicate};
 ghost use Rattle.rules.specs.Delay.{passed};
 ghost use Rattle.rules.specs.Faults.{oldest};
 ghost use Rattle.rules.specs.Step.{next_marks};
@@ -80,7 +80,8 @@ impl Marks {
     }
 
     pub fn oldest(&self) -> Option<u64>
-        ensures { result ≡ oldest self.now }
+        ensures is { result ≡ oldest self.now }
+        ensures few { length self.now ≤ 1024 }
     {
         match self.lap {
             Lap::Unset => None,

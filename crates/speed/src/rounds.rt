@@ -1,9 +1,9 @@
 use anyhow::anyhow;
 use cells::Layout;
-use console::read_text;
 use device::{CellDevice, Device};
 use rules::Pins;
 use sheet::Sheet;
+use std::io::Read;
 use trace::lines;
 
 #[derive(Drop)]
@@ -12,9 +12,10 @@ pub struct Clocks {
     pub pins: Vec<Pins>,
 }
 
-// The clocks of the trace on standard input.
+// The clocks of the trace on standard input, which is read to its end, so that no writer is cut off.
 pub fn read_clocks(rt: &HostRuntime) -> anyhow::Result<Clocks> {
-    let text = read_text(rt)?;
+    let mut text = Vec::new(rt.alloc());
+    rt.stdin().read_to_end(&mut text)?;
     let Ok(trace) = lines(text.as_slice()) else {
         return Err(anyhow!("the trace is refused"));
     };

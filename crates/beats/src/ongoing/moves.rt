@@ -7,7 +7,7 @@ use crate::columns::column_of;
 use rules::{Access, BankName, Beat, Burst, Command, Mode};
 
 fn begin(mode: Mode, access: Access, bank: BankName, column: u8) -> Ongoing
-    ensures { result ≡ begun mode access bank column }
+    ensures { result.burst ≡ begun mode access bank column }
 {
     let burst = match access {
         Access::Block => None,
@@ -24,20 +24,20 @@ fn begin(mode: Mode, access: Access, bank: BankName, column: u8) -> Ongoing
 
 impl Ongoing {
     pub fn none() -> Ongoing
-        ensures { result ≡ None }
+        ensures { result.burst ≡ None }
     {
         Ongoing { burst: None }
     }
 
     pub fn is_some(&self) -> bool
-        ensures { result ≡ is_some self.now }
+        ensures { result ≡ is_some self.now.burst }
     {
         self.burst.is_some()
     }
 
     // The burst whose beat is done at a clock with the given command.
     pub fn under(self, mode: Mode, command: Command) -> Ongoing
-        ensures { result ≡ current mode self command }
+        ensures { result.burst ≡ current mode self.burst command }
     {
         match command {
             Command::Stop => Ongoing::none(),
@@ -57,7 +57,7 @@ impl Ongoing {
 
     // What is under way after that beat.
     pub fn after(self) -> Ongoing
-        ensures { result ≡ next_burst self }
+        ensures { result.burst ≡ next_burst self.burst }
     {
         match self.burst {
             None => self,
@@ -75,7 +75,7 @@ impl Ongoing {
     }
 
     fn burst_beat(self) -> Option<Beat>
-        ensures { result ≡ burst_beat self }
+        ensures { result ≡ burst_beat self.burst }
     {
         let u = self.burst?;
         Some(Beat {
@@ -87,7 +87,7 @@ impl Ongoing {
 
     // The beat of the clock, where this is the burst whose beat is done at it.
     pub fn beat(self, command: Command) -> Option<Beat>
-        ensures { result ≡ beat_by command self }
+        ensures { result ≡ beat_by command self.burst }
     {
         match command {
             Command::Column {

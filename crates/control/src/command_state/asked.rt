@@ -1,5 +1,6 @@
-ghost use Rattle.std.specs.Prelude.{◌≡◌};
+ghost use Rattle.std.specs.Prelude.{◌≡◌, ◌^◌, ◌<◌, true};
 ghost use Rattle.rules.specs.State.{at};
+ghost use Rattle.beats.specs.Inside.{row_in};
 
 use super::Control;
 use rules::{Bank, BankName, Fault};
@@ -21,7 +22,8 @@ impl Control {
 
     // The clocks since switch-on that were no fault.
     pub fn count(&self) -> u64
-        ensures { result ≡ self.now.clock }
+        ensures is { result ≡ self.now.clock }
+        ensures below { result < 2 ^ 62 }
     {
         self.clock
     }
@@ -34,7 +36,8 @@ impl Control {
     }
 
     pub fn bank(&self, name: BankName) -> Bank
-        ensures { result ≡ at self.now.banks name }
+        ensures is { result ≡ at self.now.banks name }
+        ensures inside { row_in self.now.sheet.rows result.row ≡ true }
     {
         self.table.get(name)
     }

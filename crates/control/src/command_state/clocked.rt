@@ -5,6 +5,7 @@ ghost use Rattle.rules.specs.Step.{moved, failed, stepped};
 ghost use Rattle.rules.specs.Cells.{work_of};
 ghost use Rattle.beats.specs.Inside.{Inside};
 ghost use Rattle.control.specs.Answer.{answered, StaysInside};
+ghost use Rattle.control.specs.View.{Bounded};
 
 use super::Control;
 use crate::moved::Moved;
@@ -37,10 +38,11 @@ impl Control {
     )
         requires below { self.old.clock + 1 < 2 ^ 62 }
         requires formed { malformed self.old.sheet command ≡ false }
-        requires burst { burst ≡ current self.old.registers.mode self.old.burst command }
+        requires burst { burst.burst ≡ current self.old.registers.mode self.old.burst command }
         requires beat { beat ≡ beat_of self.old.registers.mode self.old.burst command }
         requires lanes { lanes ≡ lanes_now self.old }
-        ensures { self.new ≡ moved self.old pins command }
+        ensures is { self.new ≡ moved self.old pins command }
+        ensures bounded { Bounded self.new }
     {
         let t = self.clock + 1;
         let dqm = pins.dqm % 16;
@@ -76,6 +78,7 @@ impl Control {
     pub fn clock(&mut self, pins: Pins) -> Result<Moved, Fault>
         ensures after { self.new ≡ stepped self.old pins }
         ensures answer { result ≡ answered self.old pins }
+        ensures bounded { Bounded self.new }
         ensures inside { StaysInside (self.old.sheet.rows * 512) result }
     {
         if let Some(fault) = self.fault {

@@ -50,10 +50,21 @@ impl Control {
         }
     }
 
-    // Switched on with the given sheet, from any state.
+    // Switched on with the given sheet, from any state. Part by part: as a new value it clears 1,024 marks that nothing reads.
     pub fn switch_on(&mut self, sheet: Sheet)
         ensures { self.new ≡ switched_on sheet }
     {
-        *self = Control::new(sheet);
+        self.sheet = sheet;
+        self.clock = 0;
+        self.table = Table::new();
+        self.registers = REGISTERS;
+        self.ongoing = Ongoing::none();
+        self.reads = Delay::new(Depth::of_latency(&sheet), false);
+        self.dqms = Delay::new(Depth::Two, 0);
+        self.steps = STEPS;
+        self.marks.clear();
+        self.past = PAST;
+        self.drove = 0;
+        self.fault = None;
     }
 }

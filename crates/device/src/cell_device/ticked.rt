@@ -1,8 +1,8 @@
-ghost use Rattle.std.specs.Prelude.{◌≡◌, ◌*◌, ◌≤◌, length, drop};
+ghost use Rattle.std.specs.Prelude.{◌≡◌, ◌*◌, ◌^◌, ◌<◌, ◌≤◌, true, length, drop};
 ghost use Rattle.rules.specs.Cells.{done, taken};
 ghost use Rattle.rules.specs.State.{at};
 ghost use Rattle.rules.specs.Meaning.{step, out, switch_on, run};
-ghost use Rattle.beats.specs.Inside.{Inside};
+ghost use Rattle.beats.specs.Inside.{Inside, row_in};
 ghost use Rattle.device.specs.Cells.{meaning_of, Keeps};
 
 use super::CellDevice;
@@ -48,14 +48,16 @@ fn perform<L: Layout>(cells: &mut [L::Cell], rows: u32, work: Work) -> u32
 impl<L: Layout> CellDevice<'_, L> {
     // A bank's row, if one is open.
     pub fn row(&self, bank: BankName) -> Option<OpenRow>
-        ensures { result ≡ (at self.now.control.banks bank).row }
+        ensures is { result ≡ (at self.now.control.banks bank).row }
+        ensures inside { row_in self.now.control.sheet.rows result ≡ true }
     {
         self.control.bank(bank).row
     }
 
     // The clocks since switch-on that were no fault.
     pub fn count(&self) -> u64
-        ensures { result ≡ self.now.control.clock }
+        ensures is { result ≡ self.now.control.clock }
+        ensures below { result < 2 ^ 62 }
     {
         self.control.count()
     }

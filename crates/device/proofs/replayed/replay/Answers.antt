@@ -2,6 +2,7 @@ use Rattle.std.proofs.Common.{◌≡◌, ap, ◌∙◌, rules}
 use Rattle.sheet.specs.declared.sheet.Sheet.{Sheet}
 use Rattle.rules.specs.Meaning.{Meaning, run}
 use Rattle.device.specs.Cells.{meaning_of, fresh, rows_in}
+use Rattle.lines.specs.Line.{line}
 use Rattle.device.proofs.Fits.{left_words, left_rest}
 use Rattle.device.proofs.replayed.replay.Goals as goal
 
@@ -20,6 +21,6 @@ returns g c =
     let rows : d.control.sheet.rows ≡ rows_in row x memory = ap (λ (m : Meaning). m.state.sheet.rows) start.is in
     record {
       fault = c.fault.ensures ∙ ap (λ (m : Meaning). m.state.fault) after;
-      words = left_words words row memory e.cells.now _ e.control e.words x ps (ap (λ (s : Sheet). s.rows) kept.sheet ∙ rows) after (search rules);
+      words = left_words words row memory e.cells.now _ e.control (line e.words) x ps (ap (λ (s : Sheet). s.rows) kept.sheet ∙ rows) after (search rules);
       rest = left_rest row (rows_in row x memory) d.control.sheet.rows memory d.cells.now e.cells.now _ rows start.memory kept.rest (search rules);
     }

@@ -1,6 +1,7 @@
 use Rattle.std.proofs.Common.{◌≡◌, ℕ, ◌*◌, length, drop, refl, ap, ◌∙◌, subst}
 use Rattle.rules.specs.Delay.{passed}
 use Rattle.rules.specs.Cells.{done, taken}
+use Rattle.lines.specs.Line.{line}
 use Rattle.device.proofs.Fits.{held, went, sheet_on, fit_on}
 use Rattle.device.proofs.cell_device.CellDevice.tick.Goals as goal
 
@@ -12,7 +13,7 @@ invariant_of-self g c =
 pub returns-in-Err : goal.returns-in-Err
 returns-in-Err g c =
     let self = c.args.self.now in
-    let w = held g.L.Layout.words self.cells.now self.control _ self.words c.args.pins c.in-Err.field-0 c.clock.ensures.after c.in-Err.ensures.answer in
+    let w = held g.L.Layout.words self.cells.now self.control _ (line self.words) c.args.pins c.in-Err.field-0 c.clock.ensures.after c.in-Err.ensures.answer in
     record { after = w.0; answer = w.1; kept = record { lender = refl; rest = refl; length = refl; sheet = sheet_on self.control _ c.args.pins c.clock.ensures.after } }
 
 pub returns-in-Ok : goal.returns-in-Ok
@@ -22,10 +23,10 @@ returns-in-Ok g c =
     let work = c.in-Ok.field-0.work in
     let memory = self.cells.now in
     let memory' = c.perform-taken.new.cells in
-    let w = went words memory memory' self.control _ self.words _ c.args.pins c.in-Ok.field-0 c.front.result c.lane_bits.result
+    let w = went words memory memory' self.control _ (line self.words) _ c.args.pins c.in-Ok.field-0 c.front.result c.lane_bits.result
     c.clock.ensures.after c.in-Ok.ensures.answer
     (subst (λ (n : ℕ). words n memory' ≡ done work (words n memory)) c.rows-rows.ensures c.perform-taken.ensures.words)
-    (c.push.ensures ∙ ap (passed self.words) (c.perform-taken.ensures.taken ∙ ap (λ (n : ℕ). taken work (words n memory)) c.rows-rows.ensures))
+    (c.push.ensures ∙ ap (passed (line self.words)) (c.perform-taken.ensures.taken ∙ ap (λ (n : ℕ). taken work (words n memory)) c.rows-rows.ensures))
     (c.front.ensures 0) c.lane_bits.ensures in
     record {
       after = w.0;
