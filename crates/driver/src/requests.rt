@@ -60,11 +60,13 @@ impl<D: Device> Ready<D> {
 
     // Fills the buffer with the words from the address on; answers the clocks that passed.
     pub fn read(&mut self, address: u32, buffer: &mut [u32]) -> Result<u32, Refusal>
+        ensures rest { Rest D.Device.reachable D.Device.meaning self.new.channel }
         ensures answered { Answered (D.Device.meaning self.old.channel.device) (D.Device.meaning self.new.channel.device) (reading address buffer.old) (reading address buffer.new) result }
         ensures ledger { IfAccepted result (self.new.channel.ledger ≡ after_read self.old.channel.sheet address (count buffer.old) self.old.channel.ledger) }
         ensures same { IfRefused result (self.new ≡ self.old) }
     {
         if let Some(refusal) = self.refused(address, buffer.len()) {
+            self.at_rest();
             return Err(refusal);
         }
         let channel = &mut self.channel;
@@ -76,11 +78,13 @@ impl<D: Device> Ready<D> {
 
     // Stores the words from the address on, in the bits that the pen reaches; answers the clocks that passed.
     pub fn write(&mut self, pen: &Pen, address: u32, words: &[u32]) -> Result<u32, Refusal>
+        ensures rest { Rest D.Device.reachable D.Device.meaning self.new.channel }
         ensures answered { Answered (D.Device.meaning self.old.channel.device) (D.Device.meaning self.new.channel.device) (writing pen.now address words.now) (writing pen.now address words.now) result }
         ensures ledger { IfAccepted result (self.new.channel.ledger ≡ after_write self.old.channel.sheet pen.now address (count words.now) self.old.channel.ledger) }
         ensures same { IfRefused result (self.new ≡ self.old) }
     {
         if let Some(refusal) = self.refused(address, words.len()) {
+            self.at_rest();
             return Err(refusal);
         }
         let channel = &mut self.channel;
@@ -94,11 +98,13 @@ impl<D: Device> Ready<D> {
     // Puts the pen's colour in so many words from the address on, in the bits that the pen reaches; answers the clocks
     // that passed.
     pub fn fill(&mut self, pen: &Pen, address: u32, length: u32) -> Result<u32, Refusal>
+        ensures rest { Rest D.Device.reachable D.Device.meaning self.new.channel }
         ensures answered { Answered (D.Device.meaning self.old.channel.device) (D.Device.meaning self.new.channel.device) (filling pen.now address length) (filling pen.now address length) result }
         ensures ledger { IfAccepted result (self.new.channel.ledger ≡ after_fill self.old.channel.sheet pen.now address length self.old.channel.ledger) }
         ensures same { IfRefused result (self.new ≡ self.old) }
     {
         if let Some(refusal) = self.refused(address, length as usize) {
+            self.at_rest();
             return Err(refusal);
         }
         let channel = &mut self.channel;
@@ -112,10 +118,12 @@ impl<D: Device> Ready<D> {
 
     // Lets at least so many clocks pass; answers how many did.
     pub fn wait(&mut self, clocks: u32) -> Result<u32, Refusal>
+        ensures rest { Rest D.Device.reachable D.Device.meaning self.new.channel }
         ensures answered { Answered (D.Device.meaning self.old.channel.device) (D.Device.meaning self.new.channel.device) (waiting clocks) (waiting clocks) result }
         ensures same { IfRefused result (self.new ≡ self.old) }
     {
         if let Some(refusal) = self.wait_refused(clocks) {
+            self.at_rest();
             return Err(refusal);
         }
         let channel = &mut self.channel;

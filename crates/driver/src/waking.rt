@@ -4,7 +4,7 @@ ghost use Rattle.rules.specs.Meaning.{switch_on, run};
 ghost use Rattle.rules.specs.Cases.{nop};
 ghost use Rattle.schedule.specs.Stretch.{Stretch};
 ghost use Rattle.schedule.specs.Waking.{settled, primed, priming_pins};
-ghost use Rattle.driver.specs.States.{IsSettled};
+ghost use Rattle.driver.specs.States.{IsSettled, Rest};
 
 use crate::off::Off;
 use crate::ready::Ready;
@@ -99,6 +99,7 @@ impl<D: Device> Settled<D> {
         ensures count { (D.Device.meaning result.channel.device).state.clock ≡ (D.Device.meaning self).state.sheet.pup + ((D.Device.meaning self).state.sheet.rp + (D.Device.meaning self).state.sheet.rc + 3) }
         ensures sheet { result.channel.sheet ≡ (D.Device.meaning self).state.sheet }
         ensures ledger { result.channel.ledger ≡ primed (D.Device.meaning self).state.sheet ((D.Device.meaning self).state.sheet.pup + 1) ((D.Device.meaning self).state.sheet.pup + ((D.Device.meaning self).state.sheet.rp + (D.Device.meaning self).state.sheet.rc + 3)) }
+        ensures rest { Rest D.Device.reachable D.Device.meaning result.channel }
     {
         let Settled { mut device } = self;
         let sheet = device.sheet();

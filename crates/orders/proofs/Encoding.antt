@@ -1,5 +1,5 @@
 -- A command's pins bring it.
-use Prim.Native.Nat.{ℕ, ◌+◌, ◌/◌, ◌%◌, ◌<◌}
+use Prim.Native.Nat.{ℕ, ◌+◌, ◌/◌, ◌%◌, ◌^◌, ◌<◌}
 use mathlib.Core.Path.{◌≡◌, refl, ap}
 use mathlib.Core.Bool.{Bool, true, false}
 use lib.Dec.{eqb}
@@ -11,9 +11,11 @@ use Rattle.rules.specs.declared.pins.Command.{Command}
 use Rattle.rules.specs.declared.pins.Target.TheVariants.{One, Both}
 use Rattle.rules.specs.declared.pins.Command.TheVariants.{Inhibit, Nop, Stop, Column, Activate, Precharge, Refresh, LoadMode, LoadSpecial}
 use Rattle.rules.specs.Pins.{eighth}
+use Rattle.rules.specs.Cases.{L, H, line}
+use Rattle.schedule.specs.Obeyed.{Brings}
 use Rattle.schedule.specs.Reading.{at_bank}
 use Rattle.schedule.proofs.Decodes.{bank_is}
-use Rattle.orders.specs.Signals.{at_8, pins_of, Encodes}
+use Rattle.orders.specs.Signals.{at_8, pins_of, Encodable, Encodes}
 
 small : (h : Bool) (c : ℕ) → c < 256 → at_8 h + c < 512
 small true c q = omega arith
@@ -35,7 +37,7 @@ row_same : (b : BankName) (r : ℕ) → r < 512 → at_bank b (r % 512) % 1024 %
 row_same A r h = omega arith
 row_same B r h = omega arith
 
-pub encodes : Encodes
+pub encodes : (c : Command) (dq : ℕ) → Encodable c → dq < 2 ^ 32 → Brings (pins_of c dq) c
 encodes Inhibit dq h w = record { is_command = refl; low = refl; word = w }
 encodes Nop dq h w = record { is_command = refl; low = refl; word = w }
 encodes Stop dq h w = record { is_command = refl; low = refl; word = w }
@@ -62,6 +64,14 @@ encodes (Precharge Both) dq h w = record { is_command = refl; low = refl; word =
 encodes Refresh dq h w = record { is_command = refl; low = refl; word = w }
 encodes (LoadMode a) dq h w = record { is_command = ap LoadMode {x = a % 1024 % 1024} {y = a} (omega arith); low = refl; word = w }
 encodes (LoadSpecial a) dq h w = record { is_command = ap LoadSpecial {x = a % 1024 % 1024} {y = a} (omega arith); low = refl; word = w }
+
+-- A9 is not looked at
+both_encoded : (b : BankName) (dq : ℕ) → dq < 2 ^ 32 → Brings (line L L H L L 0 (at_bank b 256) dq) (Precharge Both)
+both_encoded A dq w = record { is_command = refl; low = refl; word = w }
+both_encoded B dq w = record { is_command = refl; low = refl; word = w }
+
+pub all_encoded : Encodes
+all_encoded = record { each = encodes; both = both_encoded }
 
 pub data_is : (c : Command) (dq : ℕ) → (pins_of c dq).dq ≡ dq
 data_is Inhibit dq = refl

@@ -1,6 +1,7 @@
 -- The pins that bring a command.
 use Rattle.std.specs.Prelude.{ℕ, ◌+◌, ◌%◌, ◌^◌, ◌<◌, Bool, true, false}
 use Rattle.rules.specs.declared.pins.Pins.{Pins}
+use Rattle.rules.specs.declared.pins.BankName.{BankName}
 use Rattle.rules.specs.declared.pins.Access.{Access}
 use Rattle.rules.specs.declared.pins.Access.TheVariants.{Read, Write, Block}
 use Rattle.rules.specs.declared.pins.Target.{Target}
@@ -50,5 +51,7 @@ Encodable Refresh = Unit {0}
 Encodable (LoadMode a) = a < 1024
 Encodable (LoadSpecial a) = a < 1024
 
-abbrev pub Encodes : Type 0
-Encodes = (c : Command) (dq : ℕ) → Encodable c → dq < 2 ^ 32 → Brings (pins_of c dq) c
+-- a command's pins bring it; those of PRE of both banks do so with A9 high too
+pub record Encodes : Type 0 where
+  pub each : (c : Command) (dq : ℕ) → Encodable c → dq < 2 ^ 32 → Brings (pins_of c dq) c
+  pub both : (b : BankName) (dq : ℕ) → dq < 2 ^ 32 → Brings (line L L H L L 0 (at_bank b 256) dq) (Precharge Both)

@@ -1,7 +1,8 @@
 ghost use Rattle.std.specs.Prelude.{◌≡◌};
 ghost use Rattle.book.specs.Answers.{Answered, IfRefused};
 ghost use Rattle.book.specs.Jobs.{ask_of};
-ghost use Rattle.driver.specs.Devices.{device_of};
+ghost use Rattle.driver.specs.Devices.{device_of, channel_of};
+ghost use Rattle.driver.specs.States.{Rest};
 ghost use Rattle.service.specs.Served.{Served, Whole};
 
 use book::{Job, Refusal, Request};
@@ -10,6 +11,7 @@ use driver::{Off, Ready};
 
 // Makes one request.
 pub fn ask<D: Device>(driver: &mut Ready<D>, request: &mut Request) -> Result<u32, Refusal>
+    ensures rest { Rest D.Device.reachable D.Device.meaning (channel_of driver.new) }
     ensures answered { Answered (D.Device.meaning (device_of driver.old)) (D.Device.meaning (device_of driver.new)) (ask_of request.old) (ask_of request.new) result }
     ensures same { IfRefused result (driver.new ≡ driver.old) }
 {
@@ -31,8 +33,10 @@ pub fn ask<D: Device>(driver: &mut Ready<D>, request: &mut Request) -> Result<u3
 
 // Makes the requests in order; each job then has its answer.
 pub fn serve<D: Device>(driver: &mut Ready<D>, jobs: &mut [Job])
-    ensures { Served (D.Device.meaning (device_of driver.old)) jobs.old jobs.new (D.Device.meaning (device_of driver.new)) }
+    ensures rest { Rest D.Device.reachable D.Device.meaning (channel_of driver.new) }
+    ensures served { Served (D.Device.meaning (device_of driver.old)) jobs.old jobs.new (D.Device.meaning (device_of driver.new)) }
 {
+    driver.at_rest();
     for job in jobs.iter_mut() {
         job.answer = Some(ask(driver, &mut job.request));
     }

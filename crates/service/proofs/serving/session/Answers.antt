@@ -25,7 +25,7 @@ returns g c =
     subst (λ x. Stretch (switch_on m) x s.pup []) e (subst (λ x. Stretch (switch_on x) still x.state.sheet.pup []) off a.stretch) in
     let priming : Stretch (settled s m.cells) ready n [] = subst (λ x. Stretch x ready (x.state.sheet.rp + x.state.sheet.rc + 3) []) e p.stretch in
     let words : ready.cells ≡ m.cells = p.cells ∙ ap (λ x. x.cells) e in
-    let served = c.serve.ensures in
+    let served = c.serve.ensures.served in
     let es = served.events in
     let m' : Meaning = M c.release.result in
     let upheld : Upheld m.cells ready es m' =

@@ -82,6 +82,21 @@ returns-clause-answered g c =
     (λ i. spread ((k.gone.went.cells ∙ (l.gone.went.cells ∙ u.gone.went.cells)) i) a n (mask i) (λ _. k.held i)) in
     accepted_by s c.paint.new.channel (fill p a n) (fill p a n) [] count u.gone.stood x z refl refl (omega (arith, u.short, l.few, l.free, k.few, v.few))
 
+pub returns-clause-rest : goal.returns-clause-rest
+returns-clause-rest g c =
+    let u = c.tidy.ensures in
+    let l = c.load.ensures in
+    let k = c.load-2.ensures in
+    let v = c.paint.ensures in
+    let d = c.tidy.new.self.ledger in
+    let free = (stands_of u.gone).current.free in
+    record {
+      stands = stands_of v.gone;
+      soon = all_budgets.done c.paint.new.channel.ledger d.clock
+          (v.gone.keeps.within 0 1024 d.clock (k.gone.keeps.within 0 1024 d.clock (l.gone.keeps.within 0 1024 d.clock u.tidied)))
+          (omega (arith, l.few, l.free, k.few, v.few));
+    }
+
 pub invariant_of-self : goal.invariant_of-self
 invariant_of-self g c =
     let s = c.args.self.now.channel in

@@ -38,6 +38,14 @@ returns-clause-answered g c =
     accepted_by s c.fetch.new.channel (read a c.args.buffer.now) (read a c.fetch.new.buffer) _ count u.gone.stood x z (ap (read a) words) refl
     (omega (arith, u.short, v.few))
 
+pub returns-clause-rest : goal.returns-clause-rest
+returns-clause-rest g c =
+    let u = c.tidy.ensures in
+    let v = c.fetch.ensures in
+    let d = c.tidy.new.self.ledger in
+    let soon = all_budgets.done c.fetch.new.channel.ledger d.clock (v.gone.keeps.within 0 1024 d.clock u.tidied) (omega (arith, v.few)) in
+    record { stands = stands_of v.gone; soon = soon }
+
 pub invariant_of-self : goal.invariant_of-self
 invariant_of-self g c =
     let s = c.args.self.now.channel in

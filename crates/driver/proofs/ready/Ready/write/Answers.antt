@@ -66,7 +66,10 @@ returns g c =
     let mask : c.load.new.channel.ledger.mask ≡ reach p = l.held ∙ c.reach.ensures in
     let x = gone_is _ (gone_then [] (gone_then [] u.gone l.gone refl) v.gone refl)
     ((λ i. all_written a (mask i) ws ((l.gone.went.cells ∙ u.gone.went.cells) i)) ∙ spreads.written ws f a (reach p)) in
+    let soon = all_budgets.done c.store.new.channel.ledger d.clock
+    (v.gone.keeps.within 0 1024 d.clock (l.gone.keeps.within 0 1024 d.clock u.tidied)) (omega (arith, l.few, v.few)) in
     record {
+      rest = record { stands = stands_of v.gone; soon = soon };
       answered = accepted_by s c.store.new.channel (write p a ws) (write p a ws) [] count u.gone.stood x z refl refl (omega (arith, u.short, l.few, v.few));
       ledger = v.ledger ∙ ((λ i. with_stored ((l.gone.sheet ∙ u.gone.sheet) i) a n (l.ledger i))
           ∙ (λ i. with_stored s.sheet a n (with_register (u.gone.sheet i) Mask (c.reach.ensures i) (u.ledger i))));
