@@ -1,5 +1,9 @@
 use crate::pairs::{First, side_by_side};
+use cells::Words;
+use device::{CellDevice, Device};
+use recorder::Recorder;
 use rules::Pins;
+use sheet::Sheet;
 use std::alloc::Global;
 use std::test::Fail;
 use trace::Clocks;
@@ -60,5 +64,31 @@ fn an_interlock_shows_the_same(rt: HostRuntime) -> Result<(), Fail> {
     assert!(rt; seen.agreed);
     assert!(rt; seen.alike);
     assert_eq!(rt; seen.word, 0x0034_5608);
+    Ok(())
+}
+
+// Nothing before switch-on, and each clock from then on.
+#[test]
+fn a_recorder_keeps_the_clocks(rt: HostRuntime) -> Result<(), Fail> {
+    let pins = clocks(rt.alloc(), POWER_UP)?;
+    let sheet = Sheet::admit(SMALL).ok().ok_or("no sheet")?;
+    let mut words = vec![in rt.alloc(); 0u32; 4096]?;
+    let device: CellDevice<'_, Words> = CellDevice::new(&mut words, sheet);
+    let mut recorder = Recorder::new(rt.alloc(), device);
+    for clock in &pins {
+        recorder.clock(*clock);
+    }
+    let (device, before) = recorder.into_parts();
+    assert!(rt; before.is_none());
+    let mut recorder = Recorder::new(rt.alloc(), device);
+    recorder.switch_on();
+    for clock in &pins {
+        recorder.clock(*clock);
+    }
+    let (_, since) = recorder.into_parts();
+    let since = since.ok_or("a clock was lost")?;
+    assert_eq!(rt; since.len(), 7);
+    let second = since.get(1).ok_or("no second clock")?;
+    assert_eq!(rt; second.address, 0x01A);
     Ok(())
 }

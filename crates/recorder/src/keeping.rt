@@ -1,32 +1,35 @@
 ghost use Rattle.std.specs.Prelude.{◌≡◌, [], ◌∷◌, ◌++◌, IfSome, None};
-ghost use Rattle.recorder.specs.Kept.{below_meaning, below_reachable, Led, Extended};
+ghost use Rattle.std.specs.Result.{result_ok};
+ghost use Rattle.recorder.specs.Kept.{below_meaning, below_reachable, Kept, Led, Extended};
 
 use crate::record::Recorder;
 use device::Device;
 use rules::{Fault, Pins};
 use sheet::Sheet;
 use std::alloc::Global;
+use std::mem::replace;
 
-// No clock so far.
-fn emptied(kept: Option<Vec<Pins>>, heap: Global) -> Vec<Pins>
+// No clock so far, in the room that there is.
+fn emptied(kept: Result<Vec<Pins>, Vec<Pins>>) -> Vec<Pins>
     ensures { result.items ≡ [] }
 {
-    match kept {
-        Some(mut kept) => {
-            kept.clear();
-            kept
-        }
-        None => Vec::new(heap),
-    }
+    let mut room = match kept {
+        Ok(kept) => kept,
+        Err(room) => room,
+    };
+    room.clear();
+    room
 }
 
-// One more clock, if it finds its place.
-fn extended(kept: Option<Vec<Pins>>, pins: Pins) -> Option<Vec<Pins>>
-    ensures { Extended kept pins result }
+// One more clock, if it finds its place; the room is kept.
+fn extended(kept: Result<Vec<Pins>, Vec<Pins>>, pins: Pins) -> Result<Vec<Pins>, Vec<Pins>>
+    ensures { Extended (result_ok kept) pins (result_ok result) }
 {
     let mut kept = kept?;
-    kept.push(pins).ok()?;
-    Some(kept)
+    match kept.push(pins) {
+        Ok(()) => Ok(kept),
+        Err(_) => Err(kept),
+    }
 }
 
 impl<D: Device> Recorder<D> {
@@ -38,7 +41,7 @@ impl<D: Device> Recorder<D> {
         Recorder {
             below,
             heap,
-            pins: None,
+            pins: Err(Vec::new(heap)),
         }
     }
 
@@ -53,7 +56,14 @@ impl<D: Device> Recorder<D> {
             heap: _,
             pins,
         } = self;
-        (below, pins)
+        (below, pins.ok())
+    }
+
+    // Where the pins that are kept lead, in full. Computes nothing.
+    pub fn leads(&self)
+        ensures { Kept (D.Device.meaning self.now.below) self.now.pins }
+    {
+        let _ = &self.pins;
     }
 }
 
@@ -64,11 +74,13 @@ impl<D: Device> Device for Recorder<D> {
 
     fn switch_on(&mut self) {
         self.below.switch_on();
-        self.pins = Some(emptied(self.pins.take(), self.heap));
+        let kept = replace(&mut self.pins, Err(Vec::new(self.heap)));
+        self.pins = Ok(emptied(kept));
     }
 
     fn clock(&mut self, pins: Pins) -> (u8, u32) {
-        self.pins = extended(self.pins.take(), pins);
+        let kept = replace(&mut self.pins, Err(Vec::new(self.heap)));
+        self.pins = extended(kept, pins);
         self.below.clock(pins)
     }
 
