@@ -49,6 +49,7 @@ pub fn exit_code(rt: &HostRuntime, program: &str, outcome: anyhow::Result<()>) -
 }
 
 // The line of a text that is refused: the number, and the place or line if there is one.
+#[tactic(auto, using(crate::proofs::Lines::line))]
 pub fn refusal_line(heap: Global, refusal: Refusal) -> Result<String, AllocError>
     ensures { IfOk result (λ s. string_bytes s ≡ refusal_text (answer refusal)) }
 {
