@@ -1,6 +1,8 @@
-ghost use Rattle.std.specs.Prelude.{◌≡◌, ◌^◌, ◌<◌, true};
+ghost use Rattle.std.specs.Prelude.{◌≡◌, ◌^◌, ◌<◌, ◌≤◌, true, length};
 ghost use Rattle.rules.specs.State.{at};
 ghost use Rattle.beats.specs.Inside.{row_in};
+ghost use Rattle.beats.specs.Within.{within};
+ghost use Rattle.control.specs.View.{Bounded};
 
 use super::Control;
 use rules::{Bank, BankName, Fault};
@@ -40,5 +42,16 @@ impl Control {
         ensures inside { row_in self.now.sheet.rows result.row ≡ true }
     {
         self.table.get(name)
+    }
+
+    // What the type keeps, for who holds a command state. Computes nothing.
+    pub fn bounds(&self)
+        ensures bounded { Bounded self.now }
+        ensures due { within self.now.burst ≡ true }
+        ensures reads { length self.now.reads ≤ 3 }
+        ensures dqms { length self.now.dqms ≤ 3 }
+        ensures marks { length self.now.marks ≤ 1024 }
+    {
+        let _ = self.marks.oldest();
     }
 }
