@@ -1,8 +1,7 @@
-ghost use Rattle.std.specs.Prelude.{◌≡◌, ℕ, ◌^◌, ◌<◌, ◌≤◌, true, length};
+ghost use Rattle.std.specs.Prelude.{◌≡◌, ℕ, ◌^◌, ◌<◌};
 ghost use Rattle.rules.specs.State.{switched_on};
 ghost use Rattle.rules.specs.Meaning.{step, out, switch_on};
-ghost use Rattle.beats.specs.Within.{within};
-ghost use Rattle.control.specs.View.{Bounded};
+ghost use Rattle.control.specs.View.{Bounds};
 ghost use Rattle.interlock.specs.Guard.{guarded, Guarded, Passes};
 
 use control::Control;
@@ -32,11 +31,7 @@ impl<D: Device> Interlock<D> {
 
     // What the type keeps of its command state, for who holds a layer. Computes nothing.
     pub fn bounds(&self)
-        ensures bounded { Bounded self.now.control }
-        ensures due { within self.now.control.burst ≡ true }
-        ensures reads { length self.now.control.reads ≤ 3 }
-        ensures dqms { length self.now.control.dqms ≤ 3 }
-        ensures marks { length self.now.control.marks ≤ 1024 }
+        ensures { Bounds self.now.control }
     {
         self.control.bounds();
     }

@@ -2,7 +2,7 @@
 use Rattle.std.proofs.Common.{◌≡◌, ℕ, zero, suc, ◌+◌, ◌-◌, ◌*◌, ◌/◌, ◌<◌, ◌≤◌, List, [], ◌∷◌, length, take, drop, Some, None, Ok, Option, sym, refl, ap, ◌∙◌, subst, arith, ⊎_elim}
 use Rattle.std.specs.List.{IsSplitAt}
 use Rattle.std.specs.Iterator.{MakesProgress, YieldsFirst, item_count}
-use Rattle.std.proofs.lemmas.List.{length-take, length-drop}
+use Rattle.std.proofs.lemmas.List.{length-take, length-drop, nil_from_length}
 use Rattle.std.proofs.lemmas.Bool.{cases_lt}
 use Rattle.rules.specs.declared.pins.Pins.{Pins}
 use Rattle.trace.specs.Clock.{pins_of}
@@ -60,6 +60,12 @@ more bs e some =
 
 pub clock_more : (bs line rest : List ℕ) → clocks_of bs ≡ Ok (clocks bs) → IsSplitAt bs 21 line rest → Steps bs line rest
 clock_more bs line rest e h = rw (h.1, h.2) (more bs e h.0)
+
+-- behind the last line nothing is left
+pub clock_none : (bs : List ℕ) → clocks_of bs ≡ Ok (clocks bs) → length bs < 21 → clocks bs ≡ []
+clock_none bs e short =
+    let l : length (clocks bs) ≡ 0 = omega (arith, clock_bytes bs (clocks bs) e) in
+    nil_from_length (clocks bs) l
 
 -- what a call of `next` gives
 pub next_gives : {bs line rest : List ℕ} (s : List Pins) (r : Option Pins) → Steps bs line rest → s ≡ clocks bs → r ≡ pins_of line → YieldsFirst (λ c. c) s r (clocks rest)

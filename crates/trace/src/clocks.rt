@@ -52,6 +52,7 @@ impl<'a> Iterator for Clocks<'a> {
 
     ghost remaining = { item_count (λ c. c) };
 
+    #[tactic(auto, using(crate::proofs::Left::clock_none))]
     fn next(&mut self) -> Option<Pins> {
         let (line, rest) = self.rest.split_at_checked(LINE)?;
         self.rest = rest;

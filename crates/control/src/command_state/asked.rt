@@ -1,8 +1,7 @@
-ghost use Rattle.std.specs.Prelude.{◌≡◌, ◌^◌, ◌<◌, ◌≤◌, true, length};
+ghost use Rattle.std.specs.Prelude.{◌≡◌, ◌^◌, ◌<◌, true};
 ghost use Rattle.rules.specs.State.{at};
 ghost use Rattle.beats.specs.Inside.{row_in};
-ghost use Rattle.beats.specs.Within.{within};
-ghost use Rattle.control.specs.View.{Bounded};
+ghost use Rattle.control.specs.View.{Bounds};
 
 use super::Control;
 use rules::{Bank, BankName, Fault};
@@ -46,11 +45,7 @@ impl Control {
 
     // What the type keeps, for who holds a command state. Computes nothing.
     pub fn bounds(&self)
-        ensures bounded { Bounded self.now }
-        ensures due { within self.now.burst ≡ true }
-        ensures reads { length self.now.reads ≤ 3 }
-        ensures dqms { length self.now.dqms ≤ 3 }
-        ensures marks { length self.now.marks ≤ 1024 }
+        ensures { Bounds self.now }
     {
         let _ = self.marks.oldest();
     }

@@ -3,8 +3,7 @@ ghost use Rattle.rules.specs.Cells.{done, taken};
 ghost use Rattle.rules.specs.State.{at};
 ghost use Rattle.rules.specs.Meaning.{step, out, switch_on, run};
 ghost use Rattle.beats.specs.Inside.{Inside, row_in};
-ghost use Rattle.beats.specs.Within.{within};
-ghost use Rattle.control.specs.View.{Bounded};
+ghost use Rattle.control.specs.View.{Bounds};
 ghost use Rattle.device.specs.Cells.{meaning_of, Keeps};
 
 use super::CellDevice;
@@ -66,11 +65,7 @@ impl<L: Layout> CellDevice<'_, L> {
 
     // What the type keeps of its command state, for who holds a device. Computes nothing.
     pub fn bounds(&self)
-        ensures bounded { Bounded self.now.control }
-        ensures due { within self.now.control.burst ≡ true }
-        ensures reads { length self.now.control.reads ≤ 3 }
-        ensures dqms { length self.now.control.dqms ≤ 3 }
-        ensures marks { length self.now.control.marks ≤ 1024 }
+        ensures { Bounds self.now.control }
     {
         self.control.bounds();
     }
